@@ -1,0 +1,5 @@
+-- Laws of the definitions on lists.
+pub mod Member
+pub mod Rising
+pub mod Runs
+pub mod Closure

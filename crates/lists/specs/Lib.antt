@@ -1,0 +1,4 @@
+-- What the contracts cite.
+pub mod Lists
+pub mod Bytes
+pub mod Reach

@@ -1,0 +1,1 @@
+// Definitions on lists that the contracts share, and their laws. There is nothing to run here.

@@ -1,0 +1,4 @@
+-- Laws of the definitions.
+pub mod Worked
+pub mod Numbers
+pub mod Visits

@@ -1,0 +1,75 @@
+-- The visited cubes: a cube is in the list exactly when steps from the start lead to it. Assumes nothing.
+use mathlib.Core.Path.{_≡_, sym, subst}
+use mathlib.Core.Bool.{Bool, _&&_}
+use mathlib.Core.List.{List}
+use Prim.Native.Nat.{ℕ, _+_, _≤_, _<_}
+use native.Mathlib.Omega.{arith}
+use lib.Dec.{T, ltb, leb, eqb, ltb→lt, lt→ltb, leb→le}
+use Rattle.lists.specs.Lists.{isIn}
+use Rattle.lists.proofs.Member.{and-left, and-right, and3, both3, any-each, any-some, in-consIf}
+use Rattle.lists.proofs.Closure.{sound, complete, reached-lt}
+use Rattle.paper.specs.declared.Sizes.{Sizes}
+use Rattle.paper.specs.declared.Place.{Place}
+use Rattle.paper.specs.Lattice.{Lattice, Face, axis, axes, cubes, cubeNo, cubeAt, inLattice, mixedAt, faces, stepOver, steps, Visited, visited}
+use Rattle.paper.specs.Within.{Sized, CubeIn}
+use Rattle.paper.proofs.Numbers.{cube-lt}
+
+-- what test 1 and the test of a cube's place say
+axis-of : (n : ℕ) → T (axis n) → (2 ≤ n) × (n ≤ 64)
+unfolding axis
+axis-of n t = (leb→le 2 n (and-left (leb 2 n) (leb n 64) t), leb→le n 64 (and-right (leb 2 n) (leb n 64) t))
+
+pub sized : (z : Sizes) → T (axes z) → Sized z
+unfolding axes
+sized z t =
+    let e = and3 (axis (z .nx)) (axis (z .ny)) (axis (z .nz)) t in
+    let x = axis-of (z .nx) (e .0) in
+    let y = axis-of (z .ny) (e .1) in
+    let w = axis-of (z .nz) (e .2) in
+    record { x-low = x .0; x-high = x .1; y-low = y .0; y-high = y .1; z-low = w .0; z-high = w .1 }
+
+pub in-lattice : (z : Sizes) (p : Place) → T (inLattice z p) → CubeIn z p
+unfolding inLattice
+in-lattice z p t =
+    let e = and3 (ltb (p .x + 1) (z .nx)) (ltb (p .y + 1) (z .ny)) (ltb (p .z + 1) (z .nz)) t in
+    record {
+      x = ltb→lt (p .x + 1) (z .nx) (e .0);
+      y = ltb→lt (p .y + 1) (z .ny) (e .1);
+      z = ltb→lt (p .z + 1) (z .nz) (e .2);
+    }
+
+pub lattice-in : (z : Sizes) (p : Place) → CubeIn z p → T (inLattice z p)
+unfolding inLattice
+lattice-in z p h =
+    both3 (ltb (p .x + 1) (z .nx)) (ltb (p .y + 1) (z .ny)) (ltb (p .z + 1) (z .nz)) (lt→ltb _ _ (h .x)) (lt→ltb _ _ (h .y))
+    (lt→ltb _ _ (h .z))
+
+-- a step leads to a cube of the lattice
+pub step-lt : (L : Lattice) (j k : ℕ) → T (isIn (steps L j) k) → k < cubes (L .size)
+unfolding steps stepOver
+step-lt L j k t =
+    let p = cubeAt (L .size) j in
+    let w = any-some (λ f. isIn (stepOver L p f) k) (faces p) (subst T (any-each (eqb k) (stepOver L p) (faces p)) t) in
+    let f = w .0 in
+    let n = f .there in
+    let i = inLattice (L .size) (f .beyond) in
+    let m = mixedAt L p (f .corners) in
+    let e = in-consIf (n && i && m) (cubeNo (L .size) (f .beyond)) k (w .1) in
+    subst (λ (q : ℕ). q < cubes (L .size)) (sym (e .1))
+    (cube-lt (L .size) (f .beyond) (in-lattice (L .size) (f .beyond) (and3 n i m (e .0) .1)))
+
+-- "The visited cubes are the start cube and every cube reached from it": the list holds exactly these
+pub record Exactly (L : Lattice) (start k : ℕ) : Type 0 where
+  pub listed : Visited L start k → T (isIn (visited L start) k)
+  pub reached : T (isIn (visited L start) k) → Visited L start k
+
+pub visited-exactly : (L : Lattice) (start : ℕ) → start < cubes (L .size) → (k : ℕ) → Exactly L start k
+unfolding visited
+visited-exactly L start h k = record {
+  listed = complete (steps L) (cubes (L .size)) (λ i j g. step-lt L i j) start h;
+  reached = sound (steps L) (cubes (L .size)) start k;
+}
+
+pub visited-lt : (L : Lattice) (start k : ℕ) → T (isIn (visited L start) k) → k < cubes (L .size)
+unfolding visited
+visited-lt L start k t = reached-lt (steps L) (cubes (L .size)) start k t

@@ -1,0 +1,149 @@
+-- Document 01, "Lattice, sides, numbers". Assumes nothing.
+use mathlib.Core.Bool.{Bool, true, false, not, _&&_}
+use mathlib.Core.List.{List, [], _∷_, map}
+use Prim.Native.Nat.{ℕ, _+_, _-_, _*_, _/_, _%_}
+use lib.IntN.{ℤ, pos}
+use lib.Dec.{ltb, leb}
+use lib.Signed.{ltZ}
+use lib.ListN.{getD}
+use Rattle.lists.specs.Lists.{range, consIf, any, all, each, first}
+use Rattle.lists.specs.Reach.{Reach, reached}
+use Rattle.paper.specs.declared.Sizes.{Sizes}
+use Rattle.paper.specs.declared.Place.{Place}
+
+-- a lattice: its sizes, and its samples by their numbers
+pub record Lattice : Type 0 where
+  pub size : Sizes
+  pub values : List ℤ
+
+abbrev pub lattice : Sizes → List ℤ → Lattice
+lattice z s = record { size = z; values = s }
+
+abbrev pub place : ℕ → ℕ → ℕ → Place
+place x y z = record { x = x; y = y; z = z }
+
+-- "An axis has 2 to 64 samples."
+unfoldable pub axis : ℕ → Bool
+axis n = leb 2 n && leb n 64
+
+unfoldable pub axes : Sizes → Bool
+axes z = axis (z .nx) && axis (z .ny) && axis (z .nz)
+
+-- "the sample count .. nx·ny·nz"
+unfoldable pub samples : Sizes → ℕ
+samples z = z .nx * (z .ny * z .nz)
+
+-- "Above 0 is air (the source's positive, outside); 0 and below is solid."
+unfoldable pub air : ℤ → Bool
+air v = ltZ (pos 0) v
+
+-- "Sample (x, y, z) has number x + nx·(y + ny·z)."
+unfoldable pub sampleNo : Sizes → Place → ℕ
+sampleNo z p = p .x + z .nx * (p .y + z .ny * p .z)
+
+-- where the sample of a number stands
+unfoldable pub sampleAt : Sizes → ℕ → Place
+sampleAt z n = place (n % z .nx) (n / z .nx % z .ny) (n / (z .nx * z .ny))
+
+-- the sample at a place, and its side
+unfoldable pub valueAt : Lattice → Place → ℤ
+valueAt L p = getD (L .values) (sampleNo (L .size) p) (pos 0)
+
+unfoldable pub airAt : Lattice → Place → Bool
+airAt L p = air (valueAt L p)
+
+-- a cube spans two samples on each axis
+unfoldable pub cubes : Sizes → ℕ
+cubes z = (z .nx - 1) * ((z .ny - 1) * (z .nz - 1))
+
+-- "Cube (x, y, z) .. has number x + (nx−1)·(y + (ny−1)·z)."
+unfoldable pub cubeNo : Sizes → Place → ℕ
+cubeNo z p = p .x + (z .nx - 1) * (p .y + (z .ny - 1) * p .z)
+
+-- where the cube of a number stands
+unfoldable pub cubeAt : Sizes → ℕ → Place
+cubeAt z k = place (k % (z .nx - 1)) (k / (z .nx - 1) % (z .ny - 1)) (k / ((z .nx - 1) * (z .ny - 1)))
+
+-- "L/R is the low/high x end, B/T the low/high y end, N/F the low/high z end.": a corner of a cube, R adding 1, T 2, F 4
+abbrev pub LBN : ℕ
+LBN = 0
+
+abbrev pub RBN : ℕ
+RBN = 1
+
+abbrev pub LTN : ℕ
+LTN = 2
+
+abbrev pub RTN : ℕ
+RTN = 3
+
+abbrev pub LBF : ℕ
+LBF = 4
+
+abbrev pub RBF : ℕ
+RBF = 5
+
+abbrev pub LTF : ℕ
+LTF = 6
+
+abbrev pub RTF : ℕ
+RTF = 7
+
+-- "Cube (x, y, z) spans x to x+1 and so on": the sample at a corner of the cube at p
+unfoldable pub corner : Place → ℕ → Place
+corner p c = place (p .x + c % 2) (p .y + c / 2 % 2) (p .z + c / 4)
+
+-- "not all on one side"
+unfoldable pub mixed : List Bool → Bool
+mixed l = any (λ b. b) l && not (all (λ b. b) l)
+
+unfoldable pub mixedAt : Lattice → Place → List ℕ → Bool
+mixedAt L p cs = mixed (map (λ c. airAt L (corner p c)) cs)
+
+-- "A cube is crossed if its eight corners are not all on one side."
+unfoldable pub crossed : Lattice → ℕ → Bool
+crossed L k = mixedAt L (cubeAt (L .size) k) (range 0 8)
+
+-- "No cube outside the lattice exists."
+unfoldable pub inLattice : Sizes → Place → Bool
+inLattice z p = ltb (p .x + 1) (z .nx) && ltb (p .y + 1) (z .ny) && ltb (p .z + 1) (z .nz)
+
+-- a face of a cube: its corners, whether there is a place beyond it, and the cube there
+pub record Face : Type 0 where
+  pub corners : List ℕ
+  pub there : Bool
+  pub beyond : Place
+
+abbrev pub face : List ℕ → Bool → Place → Face
+face cs o b = record { corners = cs; there = o; beyond = b }
+
+-- the faces at the low and the high x, y and z end of the cube at p
+unfoldable pub faces : Place → List Face
+faces p =
+    face (LBN ∷ LTN ∷ LBF ∷ LTF ∷ []) (ltb 0 (p .x)) (place (p .x - 1) (p .y) (p .z))
+    ∷ face (RBN ∷ RTN ∷ RBF ∷ RTF ∷ []) true (place (p .x + 1) (p .y) (p .z))
+    ∷ face (LBN ∷ RBN ∷ LBF ∷ RBF ∷ []) (ltb 0 (p .y)) (place (p .x) (p .y - 1) (p .z))
+    ∷ face (LTN ∷ RTN ∷ LTF ∷ RTF ∷ []) true (place (p .x) (p .y + 1) (p .z))
+    ∷ face (LBN ∷ RBN ∷ LTN ∷ RTN ∷ []) (ltb 0 (p .z)) (place (p .x) (p .y) (p .z - 1))
+    ∷ face (LBF ∷ RBF ∷ LTF ∷ RTF ∷ []) true (place (p .x) (p .y) (p .z + 1))
+    ∷ []
+
+-- "steps into a neighbour across a shared face whose four corners are not all on one side"
+unfoldable pub stepOver : Lattice → Place → Face → List ℕ
+stepOver L p f =
+    consIf (f .there && inLattice (L .size) (f .beyond) && mixedAt L p (f .corners)) (cubeNo (L .size) (f .beyond)) []
+
+unfoldable pub steps : Lattice → ℕ → List ℕ
+steps L k = let p = cubeAt (L .size) k in each (stepOver L p) (faces p)
+
+-- "The visited cubes are the start cube and every cube reached from it by steps"
+abbrev pub Visited : Lattice → ℕ → ℕ → Type 0
+Visited L start = Reach (steps L) start
+
+-- the same as a list, by rising number; a cube is in it exactly when it is Visited (proofs/Visits, visited-exactly)
+unfoldable pub visited : Lattice → ℕ → List ℕ
+visited L start = reached (steps L) (cubes (L .size)) start
+
+-- "the crossed cube of lowest number, sought by x within y within z", or the number of cubes where none is crossed
+unfoldable pub lowest : Lattice → ℕ
+lowest L = first (crossed L) (cubes (L .size)) (range 0 (cubes (L .size)))

@@ -1,0 +1,33 @@
+-- What inner functions ask of their arguments: sizes that pass test 1, places that are in the lattice. Assumes nothing.
+use mathlib.Core.Path.{_≡_}
+use Prim.Native.Nat.{ℕ, _+_, _≤_, _<_}
+use lib.ListN.{length}
+use Rattle.paper.specs.declared.Sizes.{Sizes}
+use Rattle.paper.specs.declared.Place.{Place}
+use Rattle.paper.specs.Lattice.{Lattice, samples}
+
+-- sizes that pass test 1
+pub record Sized (n : Sizes) : Type 0 where
+  pub x-low : 2 ≤ n .nx
+  pub x-high : n .nx ≤ 64
+  pub y-low : 2 ≤ n .ny
+  pub y-high : n .ny ≤ 64
+  pub z-low : 2 ≤ n .nz
+  pub z-high : n .nz ≤ 64
+
+-- a lattice that passes tests 1 and 2
+pub record Full (L : Lattice) : Type 0 where
+  pub sized : Sized (L .size)
+  pub count : length (L .values) ≡ samples (L .size)
+
+-- a place of a sample
+pub record SampleIn (n : Sizes) (p : Place) : Type 0 where
+  pub x : p .x < n .nx
+  pub y : p .y < n .ny
+  pub z : p .z < n .nz
+
+-- a place of a cube
+pub record CubeIn (n : Sizes) (p : Place) : Type 0 where
+  pub x : p .x + 1 < n .nx
+  pub y : p .y + 1 < n .ny
+  pub z : p .z + 1 < n .nz

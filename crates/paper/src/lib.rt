@@ -1,0 +1,51 @@
+// What document 01's answers and starts are made of. The definitions that it gives them stand in specs/.
+
+// How many samples a lattice has on each axis.
+pub struct Sizes {
+    pub nx: usize,
+    pub ny: usize,
+    pub nz: usize,
+}
+
+// Where a sample or a cube stands.
+pub struct Place {
+    pub x: usize,
+    pub y: usize,
+    pub z: usize,
+}
+
+// The cube to start at, or none named.
+pub enum Start {
+    Unnamed,
+    Cube(Place),
+}
+
+// The answer of a test: 0 or the number of a refusal, and its place.
+pub struct Verdict {
+    pub number: usize,
+    pub place: usize,
+}
+
+// The answer of a build.
+pub struct Built {
+    pub number: usize,
+    pub vertices: usize,
+    pub triangles: usize,
+    pub cubes: usize,
+}
+
+// The answer of a writer.
+pub struct Wrote {
+    pub number: usize,
+    pub place: usize,
+    pub bytes: usize,
+}
+
+// The answer of a reader.
+pub struct Got {
+    pub number: usize,
+    pub place: usize,
+    pub vertices: usize,
+    pub triangles: usize,
+    pub sizes: Sizes,
+}
