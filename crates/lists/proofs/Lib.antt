@@ -3,3 +3,4 @@ pub mod Member
 pub mod Rising
 pub mod Runs
 pub mod Closure
+pub mod Computed

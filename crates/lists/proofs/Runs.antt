@@ -2,12 +2,12 @@
 use mathlib.Core.Path.{_≡_, refl, sym, ap, subst, _∙_}
 use mathlib.Core.Logic.{_⊎_, inl, inr}
 use mathlib.Core.Bool.{Bool, true, false, cond}
-use mathlib.Core.List.{List, [], _∷_, _++_, append-assoc}
+use mathlib.Core.List.{List, [], _∷_, _++_, map, append-assoc, map-append}
 use Prim.Native.Nat.{ℕ, zero, suc, _+_, _≤_, _<_}
 use native.Mathlib.Omega.{arith}
 use native.Mathlib.Nat.{add-zero, zero-add, add-suc, suc-add}
 use lib.Dec.{T, eqb, ltb}
-use lib.ListN.{length, length-append}
+use lib.ListN.{length, getD}
 use lib.Arith.{lt-of-le-ne}
 use borrow.Author.Tests.{lt-ltb, le-ltb, eqb-true, eqb-false}
 use Rattle.lists.specs.Lists.{range, consIf, keep, each, first, rank}
@@ -77,3 +77,20 @@ keep-upto p i (suc n) (suc m) h =
 pub rank-kept : (p : ℕ → Bool) (n e : ℕ) → e ≤ n → rank (keep p (range 0 n)) e ≡ length (keep p (range 0 e))
 rank-kept p n e h =
     ap length (ap (λ (k : ℕ). keep (λ m. ltb m k) (keep p (range 0 n))) (sym (zero-add e)) ∙ keep-upto p 0 n e h)
+
+-- a function along a run
+module _ {A : Type 0} (f : ℕ → A) where
+  pub length-along : (i n : ℕ) → length (map f (range i n)) ≡ n
+  length-along i zero = refl
+  length-along i (suc n) = ap suc (length-along (suc i) n)
+
+  at-from : (d : A) (i n j : ℕ) → j < n → getD (map f (range i n)) j d ≡ f (i + j)
+  at-from d i zero j h = absurd (omega arith)
+  at-from d i (suc n) zero h = ap f (sym (add-zero i))
+  at-from d i (suc n) (suc j) h = at-from d (suc i) n j (omega arith) ∙ ap f (omega arith)
+
+  pub at-along : (d : A) (n j : ℕ) → j < n → getD (map f (range 0 n)) j d ≡ f j
+  at-along d n j h = at-from d 0 n j h ∙ ap f (zero-add j)
+
+  pub along-snoc : (n : ℕ) → map f (range 0 (suc n)) ≡ map f (range 0 n) ++ (f n ∷ [])
+  along-snoc n = ap (map f) (range-snoc 0 n ∙ ap (λ (k : ℕ). range 0 n ++ k ∷ []) (zero-add n)) ∙ map-append f (range 0 n) (n ∷ [])

@@ -1,0 +1,2 @@
+-- Laws of counts, places and numbers that the code needs.
+pub mod Laws

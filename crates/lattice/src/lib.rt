@@ -1,0 +1,106 @@
+// Places of a lattice and their numbers.
+use paper::Place;
+use paper::Sizes;
+ghost use mathlib.Core.Path.{_≡_};
+ghost use Prim.Native.Nat.{_+_, _≤_, _<_};
+ghost use Rattle.paper.specs.Lattice.{samples, sampleNo, sampleAt, cubes, cubeNo, cubeAt};
+ghost use Rattle.paper.specs.Within.{Sized, SampleIn, CubeIn};
+
+// How many samples there are.
+pub fn sample_count(sizes: Sizes) -> usize
+    requires { ⌜ Sized sizes ⌝ }
+    ensures { λ r. ⌜ (r ≡ samples sizes) × (r ≤ 262144) ⌝ }
+{
+    sizes.nx * (sizes.ny * sizes.nz)
+}
+
+// How many cubes there are.
+pub fn cube_count(sizes: Sizes) -> usize
+    requires { ⌜ Sized sizes ⌝ }
+    ensures { λ r. ⌜ (r ≡ cubes sizes) × (r ≤ 250047) ⌝ }
+{
+    (sizes.nx - 1) * ((sizes.ny - 1) * (sizes.nz - 1))
+}
+
+// The number of the sample at a place.
+pub fn sample_no(sizes: Sizes, p: Place) -> usize
+    requires { ⌜ Sized sizes × SampleIn sizes p ⌝ }
+    ensures { λ r. ⌜ (r ≡ sampleNo sizes p) × (r < samples sizes) ⌝ }
+{
+    p.x + sizes.nx * (p.y + sizes.ny * p.z)
+}
+
+// The number of the cube at a place.
+pub fn cube_no(sizes: Sizes, p: Place) -> usize
+    requires { ⌜ Sized sizes × CubeIn sizes p ⌝ }
+    ensures { λ r. ⌜ (r ≡ cubeNo sizes p) × (r < cubes sizes) ⌝ }
+{
+    p.x + (sizes.nx - 1) * (p.y + (sizes.ny - 1) * p.z)
+}
+
+// The place of the cube of a number.
+pub fn cube_at(sizes: Sizes, k: usize) -> Place
+    requires { ⌜ Sized sizes × (k < cubes sizes) ⌝ }
+    ensures { λ r. ⌜ (r ≡ cubeAt sizes k) × CubeIn sizes r ⌝ }
+{
+    let w = sizes.nx - 1;
+    let h = sizes.ny - 1;
+    let q = k / w;
+    Place {
+        x: k % w,
+        y: q % h,
+        z: q / h,
+    }
+}
+
+// The place of the sample of the next number.
+pub fn next_sample(sizes: Sizes, p: Place) -> Place
+    requires { ⌜ Sized sizes × SampleIn sizes p ⌝ }
+    ensures { λ r. ⌜ r ≡ sampleAt sizes (sampleNo sizes p + 1) ⌝ }
+{
+    if p.x + 1 < sizes.nx {
+        return Place {
+            x: p.x + 1,
+            y: p.y,
+            z: p.z,
+        };
+    }
+    if p.y + 1 < sizes.ny {
+        return Place {
+            x: 0,
+            y: p.y + 1,
+            z: p.z,
+        };
+    }
+    Place {
+        x: 0,
+        y: 0,
+        z: p.z + 1,
+    }
+}
+
+// The place of the cube of the next number.
+pub fn next_cube(sizes: Sizes, p: Place) -> Place
+    requires { ⌜ Sized sizes × CubeIn sizes p ⌝ }
+    ensures { λ r. ⌜ r ≡ cubeAt sizes (cubeNo sizes p + 1) ⌝ }
+{
+    if p.x + 2 < sizes.nx {
+        return Place {
+            x: p.x + 1,
+            y: p.y,
+            z: p.z,
+        };
+    }
+    if p.y + 2 < sizes.ny {
+        return Place {
+            x: 0,
+            y: p.y + 1,
+            z: p.z,
+        };
+    }
+    Place {
+        x: 0,
+        y: 0,
+        z: p.z + 1,
+    }
+}

@@ -1,0 +1,3 @@
+-- Laws of patterns.
+pub mod Laws
+pub mod Search

@@ -1,0 +1,140 @@
+// The sides of samples, of cubes and of faces, and the lowest crossed cube.
+use paper::Place;
+use paper::Sizes;
+ghost use mathlib.Core.Path.{_≡_};
+ghost use Prim.Native.Nat.{_+_, _*_, _≤_, _<_};
+ghost use lib.ListN.{length};
+ghost use Rattle.paper.specs.Lattice.{lattice, air, cubeNo, crossed, lowest};
+ghost use Rattle.paper.specs.Sheet.{weight};
+ghost use Rattle.paper.specs.Within.{Full, CubeIn};
+ghost use Rattle.sides.specs.Pattern.{patternAt, bitOf, crossedBy, faceCorner, mixedBy, sideNo, quarterAt};
+
+// Above 0 is air.
+pub fn is_air(v: i16) -> bool
+    ensures { λ r. ⌜ r ≡ air v ⌝ }
+{
+    0 < v
+}
+
+// 1 for air and 0 for solid.
+fn side_of(v: i16) -> usize
+    ensures { λ r. ⌜ (r ≡ weight (air v) 1) × (r ≤ 1) ⌝ }
+{
+    if is_air(v) { 1 } else { 0 }
+}
+
+// The side of sample i.
+pub fn side(samples: &[i16], i: usize) -> usize
+    requires { ⌜ i < length (now samples) ⌝ }
+    ensures { λ r. ⌜ (r ≡ sideNo (now (samples .entry)) i) × (r ≤ 1) ⌝ }
+{
+    side_of(samples[i])
+}
+
+// The sides of a face across x whose lowest sample is i: bits 0, 2, 4 and 6 of a pattern. `row` and `layer` are the steps to the next
+// y and z.
+fn quarter(samples: &[i16], i: usize, row: usize, layer: usize) -> usize
+    requires { ⌜ i + row + layer < length (now samples) ⌝ }
+    ensures { λ r. ⌜ (r ≡ quarterAt (now (samples .entry)) i row layer) × (r ≤ 85) ⌝ }
+{
+    let a = side(samples, i);
+    let b = side(samples, i + row);
+    let c = side(samples, i + layer);
+    let d = side(samples, i + row + layer);
+    a + 4 * b + 16 * c + 64 * d
+}
+
+// The pattern of the cube at p.
+pub fn pattern(samples: &[i16], sizes: Sizes, p: Place) -> usize
+    requires { ⌜ Full (lattice sizes (now samples)) × CubeIn sizes p ⌝ }
+    ensures { λ r. ⌜ (r ≡ patternAt (lattice sizes (now (samples .entry))) p) × (r < 256) ⌝ }
+{
+    let row = sizes.nx;
+    let layer = sizes.nx * sizes.ny;
+    let i = lattice::sample_no(sizes, p);
+    let a = quarter(samples, i, row, layer);
+    let b = quarter(samples, i + 1, row, layer);
+    a + 2 * b
+}
+
+// Whether a pattern is that of a crossed cube.
+pub fn is_crossed(m: usize) -> bool
+    ensures { λ r. ⌜ r ≡ crossedBy m ⌝ }
+{
+    if m == 0 {
+        return false;
+    }
+    m != 255
+}
+
+// Whether the cube at p is crossed.
+pub fn crossed_at(samples: &[i16], sizes: Sizes, p: Place) -> bool
+    requires { ⌜ Full (lattice sizes (now samples)) × CubeIn sizes p ⌝ }
+    ensures { λ r. ⌜ r ≡ crossed (lattice sizes (now (samples .entry))) (cubeNo sizes p) ⌝ }
+{
+    is_crossed(pattern(samples, sizes, p))
+}
+
+// The number of the lowest crossed cube, or the number of cubes where none is crossed.
+pub fn lowest_crossed(samples: &[i16], sizes: Sizes) -> usize
+    requires { ⌜ Full (lattice sizes (now samples)) ⌝ }
+    ensures { λ r. ⌜ r ≡ lowest (lattice sizes (now (samples .entry))) ⌝ }
+{
+    let mut k: usize = 0;
+    'sought: for z in 0..sizes.nz - 1 {
+        for y in 0..sizes.ny - 1 {
+            for x in 0..sizes.nx - 1 {
+                if crossed_at(samples, sizes, Place { x: x, y: y, z: z }) {
+                    break 'sought;
+                }
+                k += 1;
+            }
+        }
+    }
+    k
+}
+
+// The side of corner c in a pattern.
+pub fn bit(m: usize, c: usize) -> usize
+    requires { ⌜ c < 8 ⌝ }
+    ensures { λ r. ⌜ (r ≡ bitOf m c) × (r ≤ 1) ⌝ }
+{
+    (m >> c) % 2
+}
+
+// The corners of the faces at the low and the high x, y and z end.
+const FACES: [[usize; 4]; 6] = [
+    [0, 2, 4, 6],
+    [1, 3, 5, 7],
+    [0, 1, 4, 5],
+    [2, 3, 6, 7],
+    [0, 1, 2, 3],
+    [4, 5, 6, 7],
+];
+
+fn face_corner(f: usize, j: usize) -> usize
+    requires { ⌜ (f < 6) × (j < 4) ⌝ }
+    ensures { λ r. ⌜ (r ≡ faceCorner f j) × (r < 8) ⌝ }
+{
+    FACES[f][j]
+}
+
+// The side of corner j of face f in a pattern.
+fn face_bit(m: usize, f: usize, j: usize) -> usize
+    requires { ⌜ (f < 6) × (j < 4) ⌝ }
+    ensures { λ r. ⌜ (r ≡ bitOf m (faceCorner f j)) × (r ≤ 1) ⌝ }
+{
+    bit(m, face_corner(f, j))
+}
+
+// Whether face f of a cube with pattern m is mixed.
+pub fn is_mixed(m: usize, f: usize) -> bool
+    requires { ⌜ f < 6 ⌝ }
+    ensures { λ r. ⌜ r ≡ mixedBy m f ⌝ }
+{
+    let airs = face_bit(m, f, 0) + face_bit(m, f, 1) + face_bit(m, f, 2) + face_bit(m, f, 3);
+    if airs == 0 {
+        return false;
+    }
+    airs != 4
+}
