@@ -1,5 +1,5 @@
 -- Tests that antt computes over a whole range, and the rule at each of its points. Assumes nothing.
-use mathlib.Core.Path.{_≡_, subst}
+use mathlib.Core.Path.{_≡_, refl, subst}
 use mathlib.Core.Bool.{Bool, true, false, _&&_}
 use Prim.Native.Nat.{ℕ, zero, suc, _<_}
 use native.Mathlib.Omega.{arith}
@@ -61,3 +61,12 @@ below6 P a b c d e g (suc (suc (suc zero))) h = d
 below6 P a b c d e g (suc (suc (suc (suc zero)))) h = e
 below6 P a b c d e g (suc (suc (suc (suc (suc zero))))) h = g
 below6 P a b c d e g (suc (suc (suc (suc (suc (suc k)))))) h = absurd (omega arith)
+
+-- none of five is the sixth
+pub sixth : (k : ℕ) → k < 6 → (k ≡ 0 → ⊥) → (k ≡ 1 → ⊥) → (k ≡ 2 → ⊥) → (k ≡ 3 → ⊥) → (k ≡ 4 → ⊥) → k ≡ 5
+sixth zero h a b c d e = absurd (a refl)
+sixth (suc zero) h a b c d e = absurd (b refl)
+sixth (suc (suc zero)) h a b c d e = absurd (c refl)
+sixth (suc (suc (suc zero))) h a b c d e = absurd (d refl)
+sixth (suc (suc (suc (suc zero)))) h a b c d e = absurd (e refl)
+sixth (suc (suc (suc (suc (suc k))))) h a b c d e = omega arith

@@ -2,13 +2,13 @@
 use mathlib.Core.Path.{_≡_, refl, sym, ap, subst, _∙_}
 use mathlib.Core.Bool.{Bool, true, false, cond, not, _&&_}
 use mathlib.Core.List.{List, [], _∷_, map}
-use Prim.Native.Nat.{ℕ, _+_, _*_, _/_, _%_, _^_, _≤_, _<_}
+use Prim.Native.Nat.{ℕ, _+_, _-_, _*_, _/_, _%_, _^_, _≤_, _<_}
 use native.Mathlib.Omega.{arith}
 use lib.IntN.{ℤ, pos}
-use lib.Dec.{T, eqb, eqb→eq, eqb-refl, ltb, ltb→lt}
+use lib.Dec.{T, eqb, eqb→eq, eqb-refl, ltb, ltb→lt, lt→ltb}
 use lib.ListN.{length, getD}
 use Rattle.lists.specs.Lists.{range, consIf, isIn}
-use Rattle.lists.proofs.Member.{T→eq, or-left, any-each, in-consIf, getD-some, some-getD}
+use Rattle.lists.proofs.Member.{T→eq, and-left, and-right, and-both, or-left, any-each, in-consIf, getD-some, some-getD}
 use Rattle.lists.proofs.Runs.{at-along}
 use Rattle.lists.proofs.Computed.{Test8, every8, every8-at, upto, upto-at, below6}
 use Rattle.paper.specs.declared.Sizes.{Sizes}
@@ -16,9 +16,11 @@ use Rattle.paper.specs.declared.Place.{Place}
 use Rattle.paper.specs.Lattice.{Lattice, lattice, air, sampleNo, valueAt, airAt, corner, mixed, mixedAt, crossed, cubes, cubeNo, cubeAt, inLattice, Face, face, place, faces, stepOver, steps}
 use Rattle.paper.specs.Sheet.{weight}
 use Rattle.paper.specs.Within.{Sized, Full, CubeIn}
+use Rattle.lists.proofs.Closure.{bool-same}
 use Rattle.paper.proofs.Numbers.{cube-place}
+use Rattle.paper.proofs.Visits.{in-lattice, lattice-in}
 use Rattle.lattice.proofs.Laws.{cornerStep, corner-no}
-use Rattle.sides.specs.Pattern.{bits, patternAt, sideNo, quarterAt, bitOf, crossedBy, faceCorners, faceCorner, airsBy, mixedBy, faceAt, stepTo}
+use Rattle.sides.specs.Pattern.{bits, patternAt, sideNo, quarterAt, bitOf, crossedBy, faceCorners, faceCorner, airsBy, mixedBy, faceAt, neighbours, stepTo}
 
 same : Bool → Bool → Bool
 same true b = b
@@ -145,7 +147,7 @@ mixed-by L p f h =
 
 -- a step is one over some face, and leads where stepTo says
 pub step-by : (L : Lattice) (k j : ℕ) → T (isIn (steps L k) j) → (f : ℕ) × (f < 6) × (stepTo L k f ≡ j)
-unfolding steps stepOver stepTo faceAt faces
+unfolding steps stepOver stepTo neighbours faceAt faces
 step-by L k j t =
     let p = cubeAt (L .size) k in
     let w = getD-some (λ f. isIn (stepOver L p f) j) (face [] false (place 0 0 0)) (faces p) (subst T (any-each (eqb j) (stepOver L p) (faces p)) t) in
@@ -159,7 +161,7 @@ chosen true x n h = or-left (eqb x x) false (eqb-refl x)
 chosen false x n h = absurd (omega arith)
 
 pub by-step : (L : Lattice) (k f : ℕ) → f < 6 → stepTo L k f < cubes (L .size) → T (isIn (steps L k) (stepTo L k f))
-unfolding steps stepOver stepTo faceAt faces
+unfolding steps stepOver stepTo neighbours faceAt faces
 by-step L k f h l =
     let p = cubeAt (L .size) k in
     let g = faceAt p f in
@@ -167,3 +169,72 @@ by-step L k f h l =
     subst T (sym (any-each (eqb (stepTo L k f)) (stepOver L p) (faces p)))
     (some-getD (λ g. isIn (stepOver L p g) (stepTo L k f)) (face [] false (place 0 0 0)) (faces p) f h
     (chosen b (cubeNo (L .size) (g .beyond)) (cubes (L .size)) l))
+
+-- ── the cubes beside a cube ──
+
+-- a cube's neighbours: one lower and one higher on each axis, where the axis goes on
+module _ (z : Sizes) (p : Place) (h : CubeIn z p) where
+  in-place : (x y w : ℕ) → x + 1 < z .nx → y + 1 < z .ny → w + 1 < z .nz → T (inLattice z (place x y w))
+  in-place x y w a b c = lattice-in z (place x y w) (record { x = a; y = b; z = c })
+
+  lower : (n : ℕ) (b : Bool) → (0 < n → T b) → (ltb 0 n && b) ≡ ltb 0 n
+  lower n b t =
+      bool-same (ltb 0 n && b) (ltb 0 n) (and-left (ltb 0 n) b) (λ u. and-both (ltb 0 n) b u (t (ltb→lt 0 n u)))
+
+  higher : (n m : ℕ) (b : Bool) → (n + 2 < m → T b) → (T b → n + 1 + 1 < m) → b ≡ ltb (n + 2) m
+  higher n m b t u =
+      bool-same b (ltb (n + 2) m) (λ v. lt→ltb (n + 2) m (omega (arith, u v))) (λ v. t (ltb→lt (n + 2) m v))
+
+  pub beside-0 : neighbours z p 0 ≡ ltb 0 (p .x)
+  unfolding neighbours faceAt faces
+  beside-0 = lower (p .x) _ (λ l. in-place (p .x - 1) (p .y) (p .z) (omega (arith, h .x)) (h .y) (h .z))
+
+  pub beside-1 : neighbours z p 1 ≡ ltb (p .x + 2) (z .nx)
+  unfolding neighbours faceAt faces
+  beside-1 =
+      higher (p .x) (z .nx) _ (λ l. in-place (p .x + 1) (p .y) (p .z) (omega arith) (h .y) (h .z))
+      (λ t. in-lattice z (place (p .x + 1) (p .y) (p .z)) t .x)
+
+  pub beside-2 : neighbours z p 2 ≡ ltb 0 (p .y)
+  unfolding neighbours faceAt faces
+  beside-2 = lower (p .y) _ (λ l. in-place (p .x) (p .y - 1) (p .z) (h .x) (omega (arith, h .y)) (h .z))
+
+  pub beside-3 : neighbours z p 3 ≡ ltb (p .y + 2) (z .ny)
+  unfolding neighbours faceAt faces
+  beside-3 =
+      higher (p .y) (z .ny) _ (λ l. in-place (p .x) (p .y + 1) (p .z) (h .x) (omega arith) (h .z))
+      (λ t. in-lattice z (place (p .x) (p .y + 1) (p .z)) t .y)
+
+  pub beside-4 : neighbours z p 4 ≡ ltb 0 (p .z)
+  unfolding neighbours faceAt faces
+  beside-4 = lower (p .z) _ (λ l. in-place (p .x) (p .y) (p .z - 1) (h .x) (h .y) (omega (arith, h .z)))
+
+  pub beside-5 : neighbours z p 5 ≡ ltb (p .z + 2) (z .nz)
+  unfolding neighbours faceAt faces
+  beside-5 =
+      higher (p .z) (z .nz) _ (λ l. in-place (p .x) (p .y) (p .z + 1) (h .x) (h .y) (omega arith))
+      (λ t. in-lattice z (place (p .x) (p .y) (p .z + 1)) t .z)
+
+  -- where a neighbour is, its place is a cube's
+  pub beyond-in : (f : ℕ) → T (neighbours z p f) → CubeIn z (faceAt p f .beyond)
+  unfolding neighbours
+  beyond-in f t = in-lattice z (faceAt p f .beyond) (and-right (faceAt p f .there) (inLattice z (faceAt p f .beyond)) t)
+
+  pub beyond-is : (f g : ℕ) (q : Place) → f ≡ g → q ≡ faceAt p g .beyond → T (neighbours z p f) → (q ≡ faceAt p f .beyond) × CubeIn z q
+  beyond-is f g q e r t =
+      let w : q ≡ faceAt p f .beyond = r ∙ ap (λ (n : ℕ). faceAt p n .beyond) (sym e) in
+      (w, subst (CubeIn z) (sym w) (beyond-in f t))
+
+  -- a neighbour at a low end leaves room below
+  pub below-is : (f g n : ℕ) → f ≡ g → neighbours z p g ≡ ltb 0 n → T (neighbours z p f) → 0 < n
+  below-is f g n e r t = ltb→lt 0 n (subst T (ap (neighbours z p) e ∙ r) t)
+
+-- a step, by the cube's pattern
+pub step-at : (L : Lattice) (p : Place) (k f : ℕ) → cubeAt (L .size) k ≡ p → f < 6
+    → stepTo L k f
+    ≡ cond (neighbours (L .size) p f && mixedBy (patternAt L p) f) (cubeNo (L .size) (faceAt p f .beyond)) (cubes (L .size))
+unfolding stepTo
+step-at L p k f e l =
+    let z = L .size in
+    ap (λ (q : Place). cond (neighbours z q f && mixedAt L q (faceAt q f .corners)) (cubeNo z (faceAt q f .beyond)) (cubes z)) e
+    ∙ ap (λ (b : Bool). cond (neighbours z p f && b) (cubeNo z (faceAt p f .beyond)) (cubes z)) (mixed-by L p f l)

@@ -6,6 +6,7 @@ use lib.IntN.{ℤ, pos}
 use lib.Dec.{eqb}
 use lib.ListN.{getD}
 use Rattle.lists.specs.Lists.{range}
+use Rattle.paper.specs.declared.Sizes.{Sizes}
 use Rattle.paper.specs.declared.Place.{Place}
 use Rattle.paper.specs.Lattice.{Lattice, air, Face, face, place, airAt, corner, cubes, cubeNo, cubeAt, inLattice, mixedAt, faces}
 use Rattle.paper.specs.Sheet.{weight}
@@ -62,12 +63,12 @@ unfoldable pub faceAt : Place → ℕ → Face
 faceAt p f = getD (faces p) f (face [] false (place 0 0 0))
 
 -- whether a cube of the lattice is beyond face f of the cube at p
-unfoldable pub neighbours : Lattice → Place → ℕ → Bool
-neighbours L p f = faceAt p f .there && inLattice (L .size) (faceAt p f .beyond)
+unfoldable pub neighbours : Sizes → Place → ℕ → Bool
+neighbours z p f = faceAt p f .there && inLattice z (faceAt p f .beyond)
 
 -- the cube that a step over face f of cube k leads to, or the number of cubes where there is no such step
 unfoldable pub stepTo : Lattice → ℕ → ℕ → ℕ
 stepTo L k f =
     let p = cubeAt (L .size) k in
     let g = faceAt p f in
-    cond (g .there && inLattice (L .size) (g .beyond) && mixedAt L p (g .corners)) (cubeNo (L .size) (g .beyond)) (cubes (L .size))
+    cond (neighbours (L .size) p f && mixedAt L p (g .corners)) (cubeNo (L .size) (g .beyond)) (cubes (L .size))

@@ -3,11 +3,12 @@ use paper::Place;
 use paper::Sizes;
 ghost use mathlib.Core.Path.{_≡_};
 ghost use Prim.Native.Nat.{_+_, _*_, _≤_, _<_};
+ghost use lib.Dec.{T};
 ghost use lib.ListN.{length};
 ghost use Rattle.paper.specs.Lattice.{lattice, air, cubeNo, crossed, lowest};
 ghost use Rattle.paper.specs.Sheet.{weight};
-ghost use Rattle.paper.specs.Within.{Full, CubeIn};
-ghost use Rattle.sides.specs.Pattern.{patternAt, bitOf, crossedBy, faceCorner, mixedBy, sideNo, quarterAt};
+ghost use Rattle.paper.specs.Within.{Sized, Full, CubeIn};
+ghost use Rattle.sides.specs.Pattern.{patternAt, bitOf, crossedBy, faceCorner, mixedBy, sideNo, quarterAt, faceAt, neighbours};
 
 // Above 0 is air.
 pub fn is_air(v: i16) -> bool
@@ -137,4 +138,77 @@ pub fn is_mixed(m: usize, f: usize) -> bool
         return false;
     }
     airs != 4
+}
+
+// Whether a cube of the lattice is beyond face f of the cube at p.
+pub fn has_neighbour(sizes: Sizes, p: Place, f: usize) -> bool
+    requires { ⌜ Sized sizes × CubeIn sizes p × (f < 6) ⌝ }
+    ensures { λ r. ⌜ r ≡ neighbours sizes p f ⌝ }
+{
+    if f == 0 {
+        return 0 < p.x;
+    }
+    if f == 1 {
+        return p.x + 2 < sizes.nx;
+    }
+    if f == 2 {
+        return 0 < p.y;
+    }
+    if f == 3 {
+        return p.y + 2 < sizes.ny;
+    }
+    if f == 4 {
+        return 0 < p.z;
+    }
+    p.z + 2 < sizes.nz
+}
+
+// The place beyond face f of the cube at p.
+pub fn place_beyond(sizes: Sizes, p: Place, f: usize) -> Place
+    requires { ⌜ Sized sizes × CubeIn sizes p × (f < 6) × T (neighbours sizes p f) ⌝ }
+    ensures { λ r. ⌜ (r ≡ faceAt p f .beyond) × CubeIn sizes r ⌝ }
+{
+    let x = p.x;
+    let y = p.y;
+    let z = p.z;
+    if f == 0 {
+        return Place {
+            x: x - 1,
+            y: y,
+            z: z,
+        };
+    }
+    if f == 1 {
+        return Place {
+            x: x + 1,
+            y: y,
+            z: z,
+        };
+    }
+    if f == 2 {
+        return Place {
+            x: x,
+            y: y - 1,
+            z: z,
+        };
+    }
+    if f == 3 {
+        return Place {
+            x: x,
+            y: y + 1,
+            z: z,
+        };
+    }
+    if f == 4 {
+        return Place {
+            x: x,
+            y: y,
+            z: z - 1,
+        };
+    }
+    Place {
+        x: x,
+        y: y,
+        z: z + 1,
+    }
 }
