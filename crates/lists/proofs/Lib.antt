@@ -4,3 +4,4 @@ pub mod Rising
 pub mod Runs
 pub mod Closure
 pub mod Computed
+pub mod Stores

@@ -1,0 +1,126 @@
+// Crossings: t, positions, and the record of a vertex.
+use paper::Place;
+use paper::Sizes;
+ghost use mathlib.Core.Path.{_≡_};
+ghost use mathlib.Core.Bool.{true, false};
+ghost use Prim.Native.Nat.{_+_, _*_, _≤_, _<_};
+ghost use lib.IntN.{pos};
+ghost use lib.ListN.{length, getD};
+ghost use lib.Seq.{sets};
+ghost use Rattle.paper.specs.Lattice.{lattice, air, sampleNo, valueAt, airAt, corner};
+ghost use Rattle.paper.specs.Sheet.{crossing, coordinate, recordAt, vertexRecord};
+ghost use Rattle.paper.specs.Within.{Full, SampleIn};
+ghost use Rattle.crossing.specs.Vertex.{numbers, endsOf, Near, NearPlaces, Crosses};
+
+// A vertex record.
+pub struct Vertex {
+    pub edge: i32,
+    pub x: i32,
+    pub y: i32,
+    pub z: i32,
+}
+
+// t, for the solid end's value p and the air end's value q.
+pub fn crossing_of(p: i16, q: i16) -> u32
+    requires { ⌜ (air p ≡ false) × (air q ≡ true) ⌝ }
+    ensures { λ r. ⌜ (r ≡ crossing p q) × (r ≤ 65534) ⌝ }
+{
+    let n = -(p as i32);
+    let d = (q as i32) - (p as i32);
+    65536 * (n as u32) / (d as u32)
+}
+
+// The coordinate, on one axis, of a crossing that stands t units from the solid end towards the air end.
+pub fn position(solid: usize, airy: usize, t: u32) -> i32
+    requires { ⌜ Near solid airy × (t < 65536) ⌝ }
+    ensures { λ r. ⌜ r ≡ pos (coordinate solid airy t) ⌝ }
+{
+    let from = solid as i32;
+    let step = (airy as i32) - from;
+    65536 * from + step * (t as i32)
+}
+
+// The sample at a place.
+pub fn value(samples: &[i16], sizes: Sizes, p: Place) -> i16
+    requires { ⌜ Full (lattice sizes (now samples)) × SampleIn sizes p ⌝ }
+    ensures { λ r. ⌜ r ≡ valueAt (lattice sizes (now (samples .entry))) p ⌝ }
+{
+    samples[lattice::sample_no(sizes, p)]
+}
+
+// The record of edge e, with the solid end at s and the air end at a.
+fn record_of(samples: &[i16], sizes: Sizes, e: usize, s: Place, a: Place) -> Vertex
+    requires { ⌜ Full (lattice sizes (now samples)) × SampleIn sizes s × SampleIn sizes a × NearPlaces s a × (e < 2147483648) ⌝ }
+    requires { ⌜ (airAt (lattice sizes (now samples)) s ≡ false) × (airAt (lattice sizes (now samples)) a ≡ true) ⌝ }
+    ensures { λ r. ⌜ numbers r ≡ recordAt (lattice sizes (now (samples .entry))) e s a ⌝ }
+{
+    let p = value(samples, sizes, s);
+    let q = value(samples, sizes, a);
+    let t = crossing_of(p, q);
+    Vertex {
+        edge: e as i32,
+        x: position(s.x, a.x, t),
+        y: position(s.y, a.y, t),
+        z: position(s.z, a.z, t),
+    }
+}
+
+// The ends of the edges of each kind, as corners from the anchor: R adds 1, T 2, F 4.
+const KINDS: [[usize; 2]; 7] = [[0, 1], [0, 2], [0, 4], [2, 4], [1, 4], [2, 1], [3, 4]];
+
+fn first_end(kind: usize) -> usize
+    requires { ⌜ kind < 7 ⌝ }
+    ensures { λ r. ⌜ (r ≡ endsOf kind .a) × (r < 8) ⌝ }
+{
+    KINDS[kind][0]
+}
+
+fn second_end(kind: usize) -> usize
+    requires { ⌜ kind < 7 ⌝ }
+    ensures { λ r. ⌜ (r ≡ endsOf kind .b) × (r < 8) ⌝ }
+{
+    KINDS[kind][1]
+}
+
+// The sample at a corner of the cube at p.
+pub fn corner_of(p: Place, c: usize) -> Place
+    requires { ⌜ (p .x < 64) × (p .y < 64) × (p .z < 64) × (c < 8) ⌝ }
+    ensures { λ r. ⌜ r ≡ corner p c ⌝ }
+{
+    Place {
+        x: p.x + c % 2,
+        y: p.y + c / 2 % 2,
+        z: p.z + c / 4,
+    }
+}
+
+// The record of the vertex on the edge of a kind at the anchor p.
+pub fn vertex_on(samples: &[i16], sizes: Sizes, p: Place, kind: usize) -> Vertex
+    requires { ⌜ Full (lattice sizes (now samples)) × SampleIn sizes p × Crosses (lattice sizes (now samples)) p kind ⌝ }
+    ensures { λ r. ⌜ numbers r ≡ vertexRecord (lattice sizes (now (samples .entry))) (7 * sampleNo sizes p + kind) ⌝ }
+{
+    let e = 7 * lattice::sample_no(sizes, p) + kind;
+    let u = corner_of(p, first_end(kind));
+    let v = corner_of(p, second_end(kind));
+    let first = value(samples, sizes, u);
+    if sides::is_air(first) {
+        return record_of(samples, sizes, e, v, u);
+    }
+    record_of(samples, sizes, e, u, v)
+}
+
+// A record at place k of a vertex slice.
+pub fn put_vertex(vertices: &mut [i32], k: usize, v: Vertex)
+    requires { ⌜ 4 * k + 4 ≤ length (now vertices) ⌝ }
+    ensures { λ _. ⌜ now (vertices .exit) ≡ sets (now (vertices .entry)) (4 * k) (numbers v) ⌝ }
+{
+    let at = 4 * k;
+    let e = v.edge;
+    let x = v.x;
+    let y = v.y;
+    let z = v.z;
+    vertices[at] = e;
+    vertices[at + 1] = x;
+    vertices[at + 2] = y;
+    vertices[at + 3] = z;
+}
