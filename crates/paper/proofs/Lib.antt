@@ -1,4 +1,5 @@
 -- Laws of the definitions.
 pub mod Worked
 pub mod Numbers
+pub mod Tables
 pub mod Visits
