@@ -2,4 +2,6 @@
 pub mod Worked
 pub mod Numbers
 pub mod Tables
+pub mod Anchors
+pub mod Crossing
 pub mod Visits

@@ -9,15 +9,15 @@ use lib.IntN.{ℤ, pos, _+ℤ_, _-ℤ_, _*ℤ_}
 use lib.Signed.{ltZ}
 use lib.Dec.{T, eqb, ltb, leb, eqb→eq, ltb→lt, leb→le, lit<}
 use lib.ListN.{length, getD, length-map}
-use Rattle.lists.specs.Lists.{range, any, all, each}
+use Rattle.lists.specs.Lists.{range, keep, any, all, each}
 use Rattle.lists.proofs.Member.{and-left, and-right, in-range}
-use Rattle.lists.proofs.Every.{All, all-test, all-weak, all-at, all-getD, all-in, all-map, all-each, each-le}
+use Rattle.lists.proofs.Every.{All, all-test, all-weak, all-at, all-getD, all-in, all-map, all-keep, all-each, each-le}
 use Rattle.lists.proofs.Runs.{first-lt}
 use Rattle.paper.specs.declared.Sizes.{Sizes}
 use Rattle.paper.specs.declared.Place.{Place}
 use Rattle.paper.specs.Lattice.{Lattice, corner, cubeAt}
 use Rattle.paper.specs.Tables.{Ends, Tet, Tri, ends, tet, tri, tets, rows, tetEdges, kinds, low, joins, kindOf}
-use Rattle.paper.specs.Sheet.{weight, rowOf, rowAt, triEdges, cubeTriangles}
+use Rattle.paper.specs.Sheet.{edgeNo, split, cubeEdges, weight, rowOf, rowAt, triEdges, cubeTriangles}
 
 -- ── entries ──
 
@@ -143,6 +143,22 @@ on-cube p h Q L k f =
     (all-weak (λ r. T (p t (rowAt L at t) r)) _ (λ r e. f t r e) (getD rows (rowAt L at t) []) (g (rowAt L at t) (row-lt L at t))))
     tets (on-triangles p h))
 
+-- what holds of each edge of a tetrahedron that passes a test of every edge, and whose ends are on different sides, holds of each
+-- of `cubeEdges`
+pub on-cube-edges : (p : Ends → Bool) → T (everyEdge p) → (Q : ℕ → Type 0) (L : Lattice) (k : ℕ)
+    → ((e : Ends) → T (p e) → T (split L (cubeAt (L .size) k) e) → Q (edgeNo (L .size) (cubeAt (L .size) k) e)) → All Q (cubeEdges L k)
+unfolding cubeEdges
+on-cube-edges p h Q L k f =
+    let at = cubeAt (L .size) k in
+    let no = edgeNo (L .size) at in
+    all-each Q (λ t. map no (keep (split L at) (tetEdges t))) tets
+    (all-weak (λ t. All (λ e. T (p e)) (tetEdges t)) _
+    (λ t g.
+    all-map Q no (keep (split L at) (tetEdges t))
+    (all-keep (λ e. Q (no e)) (split L at) (tetEdges t)
+    (all-weak (λ e. T (p e)) (λ e. T (split L at e) → Q (no e)) (λ e c s. f e c s) (tetEdges t) g)))
+    tets (on-edges p h))
+
 -- ── "In left-handed axes a triangle runs counter-clockwise seen from the air." ──
 
 record Point : Type 0 where
@@ -185,14 +201,20 @@ turning = tt
 abbrev pub stands : ℕ → ℕ → ℕ → Bool
 stands o c e = eqb (o % 2 + c % 2) (e % 2) && eqb (o / 2 % 2 + c / 2 % 2) (e / 2 % 2) && eqb (o / 4 + c / 4) (e / 4)
 
+-- both ends are corners of a cube
+unfoldable pub inCube : Ends → Bool
+inCube e = ltb (e .a) 8 && ltb (e .b) 8
+
 -- "From its anchor .. its ends are at": those of the kind that is found are those of the edge, either way round
 unfoldable pub kindHas : Ends → Bool
 kindHas e =
     let k = getD kinds (kindOf e) (ends 0 0) in
-    stands (low e) (k .a) (e .a) && stands (low e) (k .b) (e .b) || stands (low e) (k .b) (e .a) && stands (low e) (k .a) (e .b)
+    inCube e
+    && (stands (low e) (k .a) (e .a) && stands (low e) (k .b) (e .b)
+    || stands (low e) (k .b) (e .a) && stands (low e) (k .a) (e .b))
 
 pub kinds-found : T (everyEdge kindHas)
-unfolding everyEdge kindHas tets tetEdges kinds kindOf joins low
+unfolding everyEdge inCube kindHas tets tetEdges kinds kindOf joins low
 kinds-found = tt
 
 -- the axes that an edge spans: x adds 1, y 2, z 4
@@ -217,14 +239,6 @@ kind-lt e = first-lt (λ k. joins e (low e) (getD kinds k (ends 0 0))) 0 0 7 7 (
 
 -- ── corners ──
 
--- both ends are corners of a cube
-unfoldable pub inCube : Ends → Bool
-inCube e = ltb (e .a) 8 && ltb (e .b) 8
-
-pub edges-in-cube : T (everyEdge inCube)
-unfolding everyEdge inCube tets tetEdges
-edges-in-cube = tt
-
 -- an edge of the triangle r ends at the corner c
 abbrev pub touches : Tet → Tri → ℕ → Bool
 touches t r c = any (λ i. eqb (edgeOf t i .a) c || eqb (edgeOf t i .b) c) (r .a ∷ r .b ∷ r .c ∷ [])
@@ -247,18 +261,19 @@ pub spanning : T (all spansCube tets)
 unfolding spansCube tets
 spanning = tt
 
--- so the least x, y and z of the anchors of a triangle's edges are those of the cube
+-- so the least x, y and z of the anchors of a triangle's edges, which are of the cube, are those of the cube
 unfoldable pub reachesLow : Tet → ℕ → Tri → Bool
 reachesLow t n r =
-    let a = low (edgeOf t (r .a)) in
-    let b = low (edgeOf t (r .b)) in
-    let c = low (edgeOf t (r .c)) in
-    eqb (min (min (a % 2) (b % 2)) (c % 2)) 0
-    && eqb (min (min (a / 2 % 2) (b / 2 % 2)) (c / 2 % 2)) 0
-    && eqb (min (min (a / 4) (b / 4)) (c / 4)) 0
+    let a = edgeOf t (r .a) in
+    let b = edgeOf t (r .b) in
+    let c = edgeOf t (r .c) in
+    inCube a && inCube b && inCube c
+    && (eqb (min (min (low a % 2) (low b % 2)) (low c % 2)) 0
+    && eqb (min (min (low a / 2 % 2) (low b / 2 % 2)) (low c / 2 % 2)) 0
+    && eqb (min (min (low a / 4) (low b / 4)) (low c / 4)) 0)
 
 pub reaching : T (everyTriangle reachesLow)
-unfolding everyTriangle reachesLow tets rows tetEdges low
+unfolding everyTriangle reachesLow inCube tets rows tetEdges low
 reaching = tt
 
 -- ── sides ──
