@@ -58,14 +58,14 @@ module _ {A : Type 0} where
       go false f g = g
 
   -- lists made beside one another: each of the first may use that its part of the second is in the whole
-  pub each-sub : {B : Type 0} (P : B → Type 0) (Q : A → Type 0) (M : List ℕ) (f : A → List B) (g : A → List ℕ)
-      → ((x : A) → Q x → ((k : ℕ) → T (isIn (g x) k) → T (isIn M k)) → All P (f x))
-      → (l : List A) → All Q l → ((k : ℕ) → T (isIn (each g l) k) → T (isIn M k)) → All P (each f l)
-  each-sub P Q M f g h [] q s = tt
-  each-sub P Q M f g h (x ∷ xs) q s =
+  pub each-sub : {B : Type 0} (P : B → Type 0) (M : List ℕ) (f : A → List B) (g : A → List ℕ)
+      → ((x : A) → ((k : ℕ) → T (isIn (g x) k) → T (isIn M k)) → All P (f x))
+      → (l : List A) → ((k : ℕ) → T (isIn (each g l) k) → T (isIn M k)) → All P (each f l)
+  each-sub P M f g h [] s = tt
+  each-sub P M f g h (x ∷ xs) s =
       all-append P (f x) (each f xs)
-      (h x (q .0) (λ k t. s k (subst T (sym (any-append (eqb k) (g x) (each g xs))) (or-left (isIn (g x) k) (isIn (each g xs) k) t))))
-      (each-sub P Q M f g h xs (q .1)
+      (h x (λ k t. s k (subst T (sym (any-append (eqb k) (g x) (each g xs))) (or-left (isIn (g x) k) (isIn (each g xs) k) t))))
+      (each-sub P M f g h xs
       (λ k t. s k (subst T (sym (any-append (eqb k) (g x) (each g xs))) (or-right (isIn (g x) k) (isIn (each g xs) k) t))))
 
   -- an entry that passes, at its place among those that pass

@@ -4,4 +4,5 @@ pub mod Numbers
 pub mod Tables
 pub mod Anchors
 pub mod Crossing
+pub mod Listing
 pub mod Visits
