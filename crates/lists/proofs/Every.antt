@@ -91,6 +91,18 @@ module _ {A : Type 0} where
   each-length f m h [] = omega arith
   each-length f m h (x ∷ xs) = omega (arith, length-append (f x) (each f xs), h x, each-length f m h xs)
 
+  -- something in the list passes: at a place, and back
+  pub any-at : (p : A → Bool) (l : List A) (d : A) → T (any p l) → (i : ℕ) × (i < length l) × T (p (getD l i d))
+  any-at p [] d t = absurd t
+  any-at p (x ∷ xs) d t =
+      elim (or-cases (p x) (any p xs) t)
+      [ inl h ↦ (zero, omega arith, h) | inr r ↦ (let w = any-at p xs d r in (suc (w .0), omega (arith, w .1), w .2)) ]
+
+  pub at-any : (p : A → Bool) (l : List A) (d : A) (i : ℕ) → i < length l → T (p (getD l i d)) → T (any p l)
+  at-any p [] d i h t = absurd (omega arith)
+  at-any p (x ∷ xs) d zero h t = or-left (p x) (any p xs) t
+  at-any p (x ∷ xs) d (suc i) h t = or-right (p x) (any p xs) (at-any p xs d i (omega arith) t)
+
 -- at a member
 pub all-in : (P : ℕ → Type 0) (l : List ℕ) → All P l → (k : ℕ) → T (isIn l k) → P k
 all-in P [] h k t = absurd t

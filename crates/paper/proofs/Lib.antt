@@ -6,3 +6,4 @@ pub mod Anchors
 pub mod Crossing
 pub mod Listing
 pub mod Visits
+pub mod Steps
