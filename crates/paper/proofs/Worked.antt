@@ -5,7 +5,7 @@ use mathlib.Core.Bool.{Bool, true, false, xor}
 use mathlib.Core.List.{List, [], _∷_, _++_, map}
 use Prim.Native.Nat.{ℕ, _+_, _-_, _*_, _/_}
 use lib.IntN.{ℤ, pos, negsuc, natAbs}
-use lib.ListN.{length, replicate}
+use lib.ListN.{length, replicate, take, drop}
 use Rattle.lists.specs.Bytes.{field}
 use Rattle.lists.specs.Reach.{grow, rounds, reached}
 use Rattle.paper.specs.declared.Sizes.{Sizes}
@@ -13,11 +13,13 @@ use Rattle.paper.specs.declared.Start.{Start}
 use Rattle.paper.specs.declared.Start.the-variants.{Unnamed, Cube}
 use Rattle.paper.specs.declared.Built.{Built}
 use Rattle.paper.specs.declared.Verdict.{Verdict}
+use Rattle.paper.specs.declared.Wrote.{Wrote}
+use Rattle.paper.specs.declared.Got.{Got}
 use Rattle.paper.specs.Lattice.{Lattice, lattice, place, axis, axes, samples, air, sampleNo, sampleAt, valueAt, airAt, cubes, cubeNo, cubeAt, corner, mixed, mixedAt, crossed, inLattice, faces, stepOver, steps, visited, lowest}
 use Rattle.paper.specs.Tables.{tets, rows, tetEdges, kinds, low, joins, kindOf}
 use Rattle.paper.specs.Sheet.{Sheet, edgeNo, split, cubeEdges, vertexEdges, crossing, coordinate, recordAt, vertexRecord, rowOf, rowAt, tetEdge, triEdges, cubeTriangles, numbered, sheetOf, vertexWords, triangleWords}
-use Rattle.paper.specs.Build.{Lent, lent, roomy, startOf, sampleTests, roomTests, buildNumber, built}
-use Rattle.paper.specs.File.{Content, contentOf, bits32, signed32, trailerAt, fileLength, trailerBytes, fileBytes, badTriangle, firstBad, limits, trailer, fileV, fileT, fileSizes, fileVertices, fileTriangles, laidOut, fileTests}
+use Rattle.paper.specs.Build.{Lent, lent, roomy, startOf, sampleTests, roomTests, buildNumber, built, workAfter, outputAfter, lentAfter}
+use Rattle.paper.specs.File.{Content, contentOf, bits32, signed32, trailerAt, fileLength, trailerBytes, fileBytes, badTriangle, firstBad, limits, writeVerdict, wrote, trailer, fileV, fileT, fileSizes, fileVertices, fileTriangles, laidOut, fileTests, readVerdict, got}
 use Rattle.paper.specs.Check.{sameSizes, sameTriangle, turned, recordOf, edgeOf, badRecord, cornerOf, triangleOf, badNaming, complete, sheetTests, checked}
 
 data Case : Type 0 where
@@ -29,8 +31,20 @@ data Case : Type 0 where
   files : Lattice → Case
   -- the check of the lattice's own file, but with these triangles
   checks : Lattice → List ℕ → Case
+  -- the check of a file with these vertices and triangles, of these sizes
+  checksFile : Lattice → Sizes → List ℤ → List ℕ → Case
   -- t
   crosses : ℤ → ℤ → Case
+  -- the number of a build, and then what each lent slice holds
+  leaves : Lattice → Start → Lent → Case
+  -- the answer of a writer: number, place and bytes
+  writes : Sizes → ℕ → ℕ → List ℤ → List ℕ → ℕ → Case
+  -- the bytes of a file
+  bytes : Content → Case
+  -- the answer of a reader: number, place, counts and sizes
+  reads : List ℕ → List ℤ → List ℕ → Case
+  -- the numbers that it reads from the lattice's own file
+  rereads : Lattice → Case
 
 abbrev sizes : ℕ → ℕ → ℕ → Sizes
 sizes nx ny nz = record { nx = nx; ny = ny; nz = nz }
@@ -62,16 +76,38 @@ filed bs =
 abbrev says : Verdict → List ℕ
 says v = v .number ∷ v .place ∷ []
 
+abbrev numbers : Lent → List ℕ
+numbers l = map natAbs (l .vertices) ++ l .triangles ++ l .words ++ l .waiting ++ l .slots
+
+abbrev written : Wrote → List ℕ
+written w = w .number ∷ w .place ∷ w .bytes ∷ []
+
+abbrev read : Got → List ℕ
+read g =
+    g .number ∷ g .place ∷ g .vertices ∷ g .triangles ∷ g .sizes .nx ∷ g .sizes .ny ∷ g .sizes .nz ∷ []
+
 third : ℕ → ℕ
 third n = n / 3
 
+fourth : ℕ → ℕ
+fourth n = n / 4
+
 outcome : Case → List ℕ
-unfolding third grow rounds reached axis axes samples air sampleNo sampleAt valueAt airAt cubes cubeNo cubeAt corner mixed mixedAt crossed inLattice faces stepOver steps visited lowest tets rows tetEdges kinds low joins kindOf edgeNo split cubeEdges vertexEdges crossing coordinate recordAt vertexRecord rowOf rowAt tetEdge triEdges cubeTriangles numbered sheetOf vertexWords triangleWords xor roomy sampleTests roomTests buildNumber built field bits32 signed32 trailerAt fileLength trailerBytes fileBytes badTriangle firstBad limits trailer fileV fileT fileSizes fileVertices fileTriangles laidOut fileTests sameSizes sameTriangle turned recordOf edgeOf badRecord cornerOf triangleOf badNaming complete sheetTests checked
+unfolding third fourth grow rounds reached axis axes samples air sampleNo sampleAt valueAt airAt cubes cubeNo cubeAt corner mixed mixedAt crossed inLattice faces stepOver steps visited lowest tets rows tetEdges kinds low joins kindOf edgeNo split cubeEdges vertexEdges crossing coordinate recordAt vertexRecord rowOf rowAt tetEdge triEdges cubeTriangles numbered sheetOf vertexWords triangleWords xor roomy sampleTests roomTests buildNumber built workAfter outputAfter lentAfter field bits32 signed32 trailerAt fileLength trailerBytes fileBytes badTriangle firstBad limits writeVerdict wrote trailer fileV fileT fileSizes fileVertices fileTriangles laidOut fileTests readVerdict got sameSizes sameTriangle turned recordOf edgeOf badRecord cornerOf triangleOf badNaming complete sheetTests checked
 outcome (builds nv nt L s) = answer (built L s (room nv nt))
 outcome (lists L) = listed L (sheetOf L (startOf L Unnamed))
 outcome (files L) = let S = sheetOf L (startOf L Unnamed) in filed (file L S (length (S .triangles)) (triangleWords S))
 outcome (checks L ts) = says (checked L Unnamed (file L (sheetOf L (startOf L Unnamed)) (third (length ts)) ts) 30 30 200)
+outcome (checksFile L z vs ts) = says (checked L Unnamed (fileBytes (contentOf z (fourth (length vs)) (third (length ts)) vs ts)) 30 30 200)
 outcome (crosses p q) = crossing p q ∷ []
+outcome (leaves L s l) = buildNumber L s l ∷ numbers (lentAfter L s l)
+outcome (writes z nv nt vs ts room) = written (wrote z nv nt vs ts room)
+outcome (bytes c) = fileBytes c
+outcome (reads bs vs ts) = read (got bs vs ts)
+outcome (rereads L) =
+    let S = sheetOf L (startOf L Unnamed) in
+    let bs = file L S (length (S .triangles)) (triangleWords S) in
+    map natAbs (fileVertices bs) ++ fileTriangles bs
 
 -- −1, solid, and 1, air
 abbrev o : ℤ
@@ -91,6 +127,26 @@ middle-air = lat 3 3 3 (replicate 13 o ++ a ∷ replicate 13 o)
 
 abbrev two-air : Lattice
 two-air = lat 5 2 2 (a ∷ o ∷ o ∷ o ∷ a ∷ replicate 15 o)
+
+abbrev zero-solid : Lattice
+zero-solid = lat 2 2 2 (pos 0 ∷ a ∷ replicate 6 (pos 0))
+
+abbrev steep : Lattice
+steep = lat 2 2 2 (a ∷ replicate 7 (negsuc 1))
+
+abbrev far-air : Lattice
+far-air = lat 2 2 2 (o ∷ o ∷ o ∷ o ∷ o ∷ a ∷ o ∷ a ∷ [])
+
+-- slices of these lengths, full of 9, 8, 5, 6 and 7
+abbrev used : ℕ → ℕ → ℕ → ℕ → ℕ → Lent
+used vs ts cw wl es = lent (replicate vs (pos 9)) (replicate ts 8) (replicate cw 5) (replicate wl 6) (replicate es 7)
+
+-- the bytes of one record (−2, 258, 0, −2147483648), one triangle of zeros, and the sizes 2, 3, 64
+abbrev small-file : List ℕ
+small-file =
+    254 ∷ 255 ∷ 255 ∷ 255 ∷ 2 ∷ 1 ∷ 0 ∷ 0 ∷ 0 ∷ 0 ∷ 0 ∷ 0 ∷ 0 ∷ 0 ∷ 0 ∷ 128
+    ∷ replicate 12 0
+    ++ 28 ∷ 0 ∷ 0 ∷ 0 ∷ 1 ∷ 0 ∷ 0 ∷ 0 ∷ 12 ∷ 0 ∷ 0 ∷ 0 ∷ 1 ∷ 0 ∷ 0 ∷ 0 ∷ 2 ∷ 0 ∷ 3 ∷ 0 ∷ 64 ∷ 0 ∷ 83 ∷ 83 ∷ []
 
 record Row : Type 0 where
   case : Case
@@ -129,6 +185,58 @@ table =
     ∷ row-of (crosses (negsuc 1) (pos 1)) (43690 ∷ [])
     ∷ row-of (crosses (negsuc 32767) (pos 32767)) (32768 ∷ [])
     ∷ row-of (crosses (negsuc 32767) (pos 1)) (65534 ∷ [])
+    -- 0 beside 1, a crossing that is no whole number of units, rows 1 and 3, kinds 3 and 4
+    ∷ row-of (lists rtn-air) (6 ∷ 32768 ∷ 32768 ∷ 32768 ∷ 8 ∷ 65536 ∷ 32768 ∷ 0 ∷ 10 ∷ 65536 ∷ 32768 ∷ 32768 ∷ 14 ∷ 32768 ∷ 65536 ∷ 0 ∷ 18 ∷ 32768 ∷ 65536 ∷ 32768 ∷ 23 ∷ 65536 ∷ 65536 ∷ 32768 ∷ 3 ∷ 1 ∷ 0 ∷ 3 ∷ 0 ∷ 4 ∷ 1 ∷ 2 ∷ 0 ∷ 0 ∷ 2 ∷ 4 ∷ 4 ∷ 2 ∷ 5 ∷ [])
+    ∷ row-of (lists zero-solid) (0 ∷ 0 ∷ 0 ∷ 0 ∷ 4 ∷ 0 ∷ 0 ∷ 65536 ∷ 5 ∷ 0 ∷ 65536 ∷ 0 ∷ 8 ∷ 65536 ∷ 65536 ∷ 0 ∷ 9 ∷ 65536 ∷ 0 ∷ 65536 ∷ 0 ∷ 1 ∷ 2 ∷ 2 ∷ 1 ∷ 3 ∷ 3 ∷ 1 ∷ 4 ∷ [])
+    ∷ row-of (lists steep) (0 ∷ 21846 ∷ 0 ∷ 0 ∷ 1 ∷ 0 ∷ 21846 ∷ 0 ∷ 2 ∷ 0 ∷ 0 ∷ 21846 ∷ 1 ∷ 2 ∷ 0 ∷ [])
+    ∷ row-of (lists far-air) (9 ∷ 65536 ∷ 0 ∷ 32768 ∷ 10 ∷ 65536 ∷ 32768 ∷ 32768 ∷ 23 ∷ 65536 ∷ 65536 ∷ 32768 ∷ 28 ∷ 32768 ∷ 0 ∷ 65536 ∷ 33 ∷ 32768 ∷ 32768 ∷ 65536 ∷ 42 ∷ 32768 ∷ 65536 ∷ 65536 ∷ 0 ∷ 3 ∷ 1 ∷ 3 ∷ 4 ∷ 1 ∷ 1 ∷ 4 ∷ 5 ∷ 1 ∷ 5 ∷ 2 ∷ [])
+    -- steps: across a mixed face, and not across a face of solid corners between crossed cubes
+    ∷ row-of (builds 100 100 (lat 3 3 2 (o ∷ a ∷ replicate 16 o)) Unnamed) (0 ∷ 6 ∷ 4 ∷ 2 ∷ [])
+    ∷ row-of (builds 100 100 (lat 3 2 2 (a ∷ o ∷ a ∷ replicate 9 o)) Unnamed) (0 ∷ 3 ∷ 1 ∷ 1 ∷ [])
+    -- room to the last vertex and triangle
+    ∷ row-of (builds 14 24 middle-air Unnamed) (0 ∷ 14 ∷ 24 ∷ 8 ∷ [])
+    -- axes and counts
+    ∷ row-of (builds 9 9 (lat 2 2 1 []) Unnamed) (1 ∷ 0 ∷ 0 ∷ 0 ∷ [])
+    ∷ row-of (builds 9 9 (lat 2 1 2 []) Unnamed) (1 ∷ 0 ∷ 0 ∷ 0 ∷ [])
+    ∷ row-of (builds 9 9 (lat 1 2 2 []) Unnamed) (1 ∷ 0 ∷ 0 ∷ 0 ∷ [])
+    ∷ row-of (builds 9 9 (lat 2 2 65 []) Unnamed) (1 ∷ 0 ∷ 0 ∷ 0 ∷ [])
+    ∷ row-of (builds 9 9 (lat 2 65 2 []) Unnamed) (1 ∷ 0 ∷ 0 ∷ 0 ∷ [])
+    ∷ row-of (builds 9 9 (lat 65 2 2 []) Unnamed) (1 ∷ 0 ∷ 0 ∷ 0 ∷ [])
+    ∷ row-of (builds 9 9 (lat 2 2 2 (replicate 7 a)) Unnamed) (2 ∷ 0 ∷ 0 ∷ 0 ∷ [])
+    ∷ row-of (builds 9 9 (lat 2 2 2 (replicate 9 a)) Unnamed) (2 ∷ 0 ∷ 0 ∷ 0 ∷ [])
+    -- what is left in the lent slices, and 3 before 4
+    ∷ row-of (leaves first-air Unnamed (used 13 4 2 2 57)) (0 ∷ 0 ∷ 49152 ∷ 0 ∷ 0 ∷ 1 ∷ 0 ∷ 49152 ∷ 0 ∷ 2 ∷ 0 ∷ 0 ∷ 49152 ∷ 9 ∷ 1 ∷ 2 ∷ 0 ∷ 8 ∷ 0 ∷ 5 ∷ 0 ∷ 6 ∷ replicate 56 0 ++ 7 ∷ [])
+    ∷ row-of (leaves first-air Unnamed (used 11 4 2 2 57)) (6 ∷ replicate 11 9 ++ replicate 4 8 ++ 0 ∷ 5 ∷ 0 ∷ 6 ∷ replicate 56 0 ++ 7 ∷ [])
+    ∷ row-of (leaves first-air Unnamed (used 12 2 2 2 57)) (7 ∷ replicate 12 9 ++ replicate 2 8 ++ 0 ∷ 5 ∷ 0 ∷ 6 ∷ replicate 56 0 ++ 7 ∷ [])
+    ∷ row-of (leaves first-air (at 1 0 0) (used 12 3 0 1 56)) (3 ∷ numbers (used 12 3 0 1 56))
+    ∷ row-of (leaves first-air (at 1 0 0) (used 12 3 1 0 56)) (3 ∷ numbers (used 12 3 1 0 56))
+    ∷ row-of (leaves first-air (at 1 0 0) (used 12 3 1 1 55)) (3 ∷ numbers (used 12 3 1 1 55))
+    ∷ row-of (leaves first-air (at 1 0 0) (used 12 3 1 1 56)) (4 ∷ numbers (used 12 3 1 1 56))
+    -- writing
+    ∷ row-of (writes (sizes 64 64 64) 3 1 (replicate 12 (pos 0)) (1 ∷ 2 ∷ 0 ∷ []) 84) (0 ∷ 0 ∷ 84 ∷ [])
+    ∷ row-of (writes (sizes 2 2 2) 3 1 (replicate 12 (pos 0)) (1 ∷ 2 ∷ 0 ∷ []) 83) (8 ∷ 0 ∷ 0 ∷ [])
+    ∷ row-of (writes (sizes 2 2 65) 3 1 (replicate 12 (pos 0)) (1 ∷ 2 ∷ 0 ∷ []) 84) (1 ∷ 0 ∷ 0 ∷ [])
+    ∷ row-of (writes (sizes 1 2 2) 3 1 (replicate 12 (pos 0)) (1 ∷ 2 ∷ 0 ∷ []) 84) (1 ∷ 0 ∷ 0 ∷ [])
+    ∷ row-of (writes (sizes 2 2 2) 4 1 (replicate 12 (pos 0)) (1 ∷ 3 ∷ 0 ∷ []) 0) (9 ∷ 0 ∷ 0 ∷ [])
+    ∷ row-of (writes (sizes 2 2 2) 3 2 (replicate 12 (pos 0)) (1 ∷ 3 ∷ 0 ∷ []) 0) (9 ∷ 0 ∷ 0 ∷ [])
+    ∷ row-of (writes (sizes 2 2 2) 3 2 (replicate 12 (pos 0)) (1 ∷ 2 ∷ 0 ∷ 0 ∷ 1 ∷ 3 ∷ []) 0) (15 ∷ 1 ∷ 0 ∷ [])
+    -- bytes, and reading
+    ∷ row-of (bytes (contentOf (sizes 2 3 64) 1 1 (negsuc 1 ∷ pos 258 ∷ pos 0 ∷ negsuc 2147483647 ∷ []) (0 ∷ 4294967295 ∷ 65536 ∷ []))) (254 ∷ 255 ∷ 255 ∷ 255 ∷ 2 ∷ 1 ∷ 0 ∷ 0 ∷ 0 ∷ 0 ∷ 0 ∷ 0 ∷ 0 ∷ 0 ∷ 0 ∷ 128 ∷ 0 ∷ 0 ∷ 0 ∷ 0 ∷ 255 ∷ 255 ∷ 255 ∷ 255 ∷ 0 ∷ 0 ∷ 1 ∷ 0 ∷ 28 ∷ 0 ∷ 0 ∷ 0 ∷ 1 ∷ 0 ∷ 0 ∷ 0 ∷ 12 ∷ 0 ∷ 0 ∷ 0 ∷ 1 ∷ 0 ∷ 0 ∷ 0 ∷ 2 ∷ 0 ∷ 3 ∷ 0 ∷ 64 ∷ 0 ∷ 83 ∷ 83 ∷ [])
+    ∷ row-of (rereads first-air) (0 ∷ 49152 ∷ 0 ∷ 0 ∷ 1 ∷ 0 ∷ 49152 ∷ 0 ∷ 2 ∷ 0 ∷ 0 ∷ 49152 ∷ 1 ∷ 2 ∷ 0 ∷ [])
+    ∷ row-of (reads small-file (replicate 4 (pos 0)) (replicate 3 0)) (0 ∷ 0 ∷ 1 ∷ 1 ∷ 2 ∷ 3 ∷ 64 ∷ [])
+    ∷ row-of (reads small-file (replicate 3 (pos 0)) (replicate 3 0)) (6 ∷ 0 ∷ 0 ∷ 0 ∷ 0 ∷ 0 ∷ 0 ∷ [])
+    ∷ row-of (reads small-file (replicate 4 (pos 0)) (replicate 2 0)) (7 ∷ 0 ∷ 0 ∷ 0 ∷ 0 ∷ 0 ∷ 0 ∷ [])
+    ∷ row-of (reads (drop 1 small-file) (replicate 4 (pos 0)) (replicate 3 0)) (14 ∷ 0 ∷ 0 ∷ 0 ∷ 0 ∷ 0 ∷ 0 ∷ [])
+    ∷ row-of (reads (drop 29 small-file) (replicate 4 (pos 0)) (replicate 3 0)) (11 ∷ 0 ∷ 0 ∷ 0 ∷ 0 ∷ 0 ∷ 0 ∷ [])
+    ∷ row-of (reads (take 51 small-file) (replicate 4 (pos 0)) (replicate 3 0)) (12 ∷ 0 ∷ 0 ∷ 0 ∷ 0 ∷ 0 ∷ 0 ∷ [])
+    -- checking: records in another order; sizes, positions, edges and indices that are wrong
+    ∷ row-of (checksFile first-air (sizes 2 2 2) (pos 2 ∷ pos 0 ∷ pos 0 ∷ pos 49152 ∷ pos 0 ∷ pos 49152 ∷ pos 0 ∷ pos 0 ∷ pos 1 ∷ pos 0 ∷ pos 49152 ∷ pos 0 ∷ []) (1 ∷ 2 ∷ 0 ∷ [])) (0 ∷ 0 ∷ [])
+    ∷ row-of (checksFile first-air (sizes 2 2 3) (pos 2 ∷ pos 0 ∷ pos 0 ∷ pos 49152 ∷ pos 0 ∷ pos 49152 ∷ pos 0 ∷ pos 0 ∷ pos 1 ∷ pos 0 ∷ pos 49152 ∷ pos 0 ∷ []) (1 ∷ 2 ∷ 0 ∷ [])) (16 ∷ 0 ∷ [])
+    ∷ row-of (checksFile first-air (sizes 2 2 2) (pos 0 ∷ pos 49152 ∷ pos 0 ∷ pos 0 ∷ pos 1 ∷ pos 0 ∷ pos 49152 ∷ pos 0 ∷ pos 2 ∷ pos 0 ∷ pos 0 ∷ pos 49153 ∷ []) (1 ∷ 2 ∷ 0 ∷ [])) (17 ∷ 2 ∷ [])
+    ∷ row-of (checksFile first-air (sizes 2 2 2) (pos 0 ∷ pos 49152 ∷ pos 0 ∷ pos 0 ∷ pos 1 ∷ pos 0 ∷ pos 49152 ∷ pos 0 ∷ pos 1 ∷ pos 0 ∷ pos 49152 ∷ pos 0 ∷ []) (1 ∷ 2 ∷ 0 ∷ [])) (17 ∷ 2 ∷ [])
+    ∷ row-of (checksFile first-air (sizes 2 2 2) (pos 0 ∷ pos 49152 ∷ pos 0 ∷ pos 0 ∷ pos 1 ∷ pos 0 ∷ pos 49152 ∷ pos 0 ∷ pos 3 ∷ pos 0 ∷ pos 0 ∷ pos 49152 ∷ []) (1 ∷ 2 ∷ 0 ∷ [])) (17 ∷ 2 ∷ [])
+    ∷ row-of (checksFile first-air (sizes 2 2 2) (pos 0 ∷ pos 49152 ∷ pos 0 ∷ pos 0 ∷ pos 1 ∷ pos 0 ∷ pos 49152 ∷ pos 0 ∷ []) []) (19 ∷ 0 ∷ [])
+    ∷ row-of (checksFile first-air (sizes 2 2 2) (pos 0 ∷ pos 49152 ∷ pos 0 ∷ pos 0 ∷ pos 1 ∷ pos 0 ∷ pos 49152 ∷ pos 0 ∷ []) (0 ∷ 1 ∷ 2 ∷ [])) (15 ∷ 0 ∷ [])
     ∷ []
 
 worked : map (λ r. outcome (r .case)) table ≡ map (λ r. r .is) table
