@@ -1,14 +1,14 @@
 -- Facts that hold of every entry of a list: made from a test that computes, carried through the functions on lists, and read at a
 -- place or at a member. Assumes nothing.
-use mathlib.Core.Path.{_≡_, refl, sym, ap, subst, _∙_}
-use mathlib.Core.Logic.{_⊎_, inl, inr}
-use mathlib.Core.Bool.{Bool, true, false, _&&_, _||_}
+use mathlib.Core.Path.{_≡_, sym, subst}
+use mathlib.Core.Logic.{inl, inr}
+use mathlib.Core.Bool.{Bool, true, false}
 use mathlib.Core.List.{List, [], _∷_, _++_, map}
-use Prim.Native.Nat.{ℕ, zero, suc, _+_, _*_, _≤_, _<_}
+use Prim.Native.Nat.{ℕ, zero, suc, _*_, _≤_, _<_}
 use native.Mathlib.Omega.{arith}
 use lib.Dec.{T, eqb, eqb→eq, eqb-refl}
 use lib.ListN.{length, getD, length-append}
-use Rattle.lists.specs.Lists.{range, consIf, keep, any, all, each, isIn}
+use Rattle.lists.specs.Lists.{consIf, keep, any, all, each, isIn}
 use Rattle.lists.proofs.Member.{or-cases, or-left, or-right, and-left, and-right, any-append}
 
 abbrev pub All : {A : Type 0} → (A → Type 0) → List A → Type 0

@@ -2,8 +2,8 @@
 -- stands. Assumes nothing.
 use mathlib.Core.Path.{_≡_, refl, sym, ap, subst, _∙_}
 use mathlib.Core.Bool.{Bool, true, false, cond}
-use mathlib.Core.List.{List, [], _∷_}
-use Prim.Native.Nat.{ℕ, zero, suc, _+_, _-_, _*_, _/_, _%_, _≤_, _<_}
+use mathlib.Core.List.{[], _∷_}
+use Prim.Native.Nat.{ℕ, zero, suc, _+_, _-_, _*_, _/_, _≤_, _<_}
 use native.Mathlib.Omega.{arith}
 use native.Mathlib.Nat.{div-add-mod', mod-lt, div-lt-iff-lt-mul}
 use lib.IntN.{ℤ, pos, negsuc, negℤ, _-ℤ_, natAbs}
@@ -11,11 +11,10 @@ use lib.Signed.{mag, natAbs-le}
 use lib.Dec.{T, eqb, ltb, ltb→lt}
 use borrow.Author.Tests.{lt-ltb, le-ltb, ne-eqb}
 use Rattle.lists.proofs.Member.{eq→T}
-use Rattle.paper.specs.declared.Place.{Place}
 use Rattle.paper.specs.Lattice.{Lattice, air, valueAt, airAt}
 use Rattle.paper.specs.Sheet.{crossing, coordinate, recordAt, vertexRecord}
-use Rattle.paper.specs.Within.{Sized, SampleIn}
-use Rattle.paper.proofs.Anchors.{Standing}
+use Rattle.paper.specs.Within.{Sized}
+use Rattle.paper.proofs.Edges.{Standing}
 
 -- −p and q − p as numbers
 natAbs-neg : (p : ℤ) → natAbs (negℤ p) ≡ natAbs p
@@ -26,17 +25,17 @@ natAbs-neg (negsuc n) = refl
 unlike : {A : Type 0} → true ≡ false → A
 unlike e = absurd (subst T e tt)
 
+above-0 : (q : ℤ) → air q ≡ true → 0 < natAbs q
+unfolding air
+above-0 (pos m) a = ltb→lt 0 m (eq→T a)
+above-0 (negsuc m) a = unlike (sym a)
+
 gap : (p q : ℤ) → air p ≡ false → air q ≡ true → natAbs (q -ℤ p) ≡ natAbs q + natAbs p
 unfolding air
 gap p (negsuc m) s a = unlike (sym a)
 gap (pos zero) (pos m) s a = refl
 gap (pos (suc n)) (pos m) s a = unlike (sym (lt-ltb 0 (suc n) (omega arith)) ∙ s)
 gap (negsuc n) (pos m) s a = refl
-
-above-0 : (q : ℤ) → air q ≡ true → 0 < natAbs q
-unfolding air
-above-0 (pos m) a = ltb→lt 0 m (eq→T a)
-above-0 (negsuc m) a = unlike (sym a)
 
 -- p solid and q air: t units are at most the exact crossing, t + 1 are more, and t falls short of the air end
 pub record Exact (p q : ℤ) : Type 0 where

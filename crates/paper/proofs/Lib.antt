@@ -2,7 +2,7 @@
 pub mod Worked
 pub mod Numbers
 pub mod Tables
-pub mod Anchors
+pub mod Edges
 pub mod Crossing
 pub mod Listing
 pub mod Visits

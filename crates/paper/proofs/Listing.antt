@@ -1,14 +1,14 @@
 -- The lists of a sheet: the vertices' edges rise, are those of the visited cubes and no others, and each has a vertex within the
 -- lattice; triangles name vertices by their places; the counts are the lengths. Assumes nothing.
-use mathlib.Core.Path.{_≡_, refl, sym, ap, subst, _∙_}
-use mathlib.Core.Bool.{Bool, true, false, cond, xor, _&&_}
+use mathlib.Core.Path.{_≡_, refl, sym, subst, _∙_}
+use mathlib.Core.Bool.{Bool, true, false, cond, _&&_}
 use mathlib.Core.List.{List, [], _∷_, map}
-use Prim.Native.Nat.{ℕ, _+_, _-_, _*_, _/_, _%_, _≤_, _<_}
+use Prim.Native.Nat.{ℕ, _-_, _*_, _/_, _%_, _<_}
 use native.Mathlib.Omega.{arith}
 use lib.IntN.{ℤ}
-use lib.Dec.{T, eqb}
+use lib.Dec.{T}
 use lib.ListN.{length, getD, length-map}
-use Rattle.lists.specs.Lists.{range, keep, all, each, isIn, rank}
+use Rattle.lists.specs.Lists.{range, keep, each, isIn}
 use Rattle.lists.proofs.Member.{and-both, and-left, and-right, and3, in-keep, in-range, range-in}
 use Rattle.lists.proofs.Every.{All, all-test, all-weak, all-map, all-each, all-in, in-all, each-sub, pick-in, each-length}
 use Rattle.lists.proofs.Rising.{Rising, keep-rising, rank-lt}
@@ -16,12 +16,12 @@ use Rattle.lists.proofs.Runs.{rank-place}
 use Rattle.lists.proofs.Closure.{bool-same}
 use Rattle.paper.specs.declared.Place.{Place}
 use Rattle.paper.specs.Lattice.{Lattice, samples, sampleAt, airAt, corner, cubes, cubeAt, visited}
-use Rattle.paper.specs.Tables.{Ends, Tet, Tri, ends, tri, tets, rows, tetEdges, kinds}
-use Rattle.paper.specs.Sheet.{Sheet, edgeNo, split, cubeEdges, vertexEdges, recordAt, vertexRecord, rowOf, rowAt, tetEdge, triEdges, cubeTriangles, numbered, sheetOf, vertexWords, corners3, triangleWords}
+use Rattle.paper.specs.Tables.{Tet, Tri, ends, tri, tets, rows, tetEdges, kinds}
+use Rattle.paper.specs.Sheet.{Sheet, edgeNo, split, cubeEdges, vertexEdges, recordAt, vertexRecord, rowAt, tetEdge, triEdges, cubeTriangles, numbered, sheetOf, vertexWords, corners3, triangleWords}
 use Rattle.paper.specs.Within.{Sized}
 use Rattle.paper.proofs.Visits.{visited-lt}
 use Rattle.paper.proofs.Tables.{differ, differs, row-differs}
-use Rattle.paper.proofs.Anchors.{Standing, cube-edges-stand, cube-edges-lt}
+use Rattle.paper.proofs.Edges.{Standing, cube-edges-stand, cube-edges-lt}
 use Rattle.paper.proofs.Crossing.{Positioned, positioned}
 
 -- ── the edges of the vertices ──

@@ -1,20 +1,19 @@
 -- Steps "into a neighbour across a shared face": the cube beyond a face shares exactly the face's four corners, and a step leads
 -- back. Assumes nothing.
 use mathlib.Core.Path.{_≡_, refl, sym, ap, subst, _∙_}
-use mathlib.Core.Bool.{Bool, true, false, cond, not, _&&_, _||_}
+use mathlib.Core.Bool.{Bool, true, false, not, _&&_, _||_}
 use mathlib.Core.List.{List, [], _∷_, map, map-map}
-use Prim.Native.Nat.{ℕ, zero, suc, _+_, _-_, _*_, _/_, _%_, _≤_, _<_}
+use Prim.Native.Nat.{ℕ, zero, suc, _+_, _-_, _*_, _/_, _%_, _<_}
 use native.Mathlib.Omega.{arith}
-use lib.Dec.{T, eqb, ltb, ltb→lt, lt→ltb}
+use lib.Dec.{T, eqb, ltb→lt, lt→ltb}
 use lib.ListN.{getD, length}
 use borrow.Author.Tests.{eq-eqb}
-use Rattle.lists.specs.Lists.{range, all, any, each, isIn}
-use Rattle.lists.proofs.Member.{or-cases, and3, both3, any-each, in-consIf, consIf-in, in-range}
+use Rattle.lists.specs.Lists.{range, all, each, isIn}
+use Rattle.lists.proofs.Member.{and3, both3, any-each, in-consIf, consIf-in, in-range}
 use Rattle.lists.proofs.Every.{all-test, all-in, any-at, at-any}
-use Rattle.paper.specs.declared.Sizes.{Sizes}
 use Rattle.paper.specs.declared.Place.{Place}
 use Rattle.paper.specs.Lattice.{Lattice, Face, place, face, airAt, cubes, cubeNo, cubeAt, corner, mixed, mixedAt, inLattice, faces, stepOver, steps}
-use Rattle.paper.specs.Within.{Sized, CubeIn}
+use Rattle.paper.specs.Within.{Sized}
 use Rattle.paper.proofs.Numbers.{cube-inside, cube-back, cube-place}
 use Rattle.paper.proofs.Visits.{in-lattice, lattice-in}
 

@@ -1,21 +1,20 @@
 -- Document 01's tables: tests of every edge and of every triangle of the six tetrahedra and sixteen rows, each computed once and
 -- carried to any entry by `at-edge` or `at-triangle`. Assumes nothing.
-use mathlib.Core.Path.{_≡_, refl, sym, ap, subst, _∙_}
+use mathlib.Core.Path.{_≡_, refl, sym, subst}
 use mathlib.Core.Bool.{Bool, true, false, cond, xor, _&&_, _||_}
 use mathlib.Core.List.{List, [], _∷_, map}
-use Prim.Native.Nat.{ℕ, zero, suc, _+_, _-_, _*_, _/_, _%_, min, _≤_, _<_}
+use Prim.Native.Nat.{ℕ, _+_, _-_, _*_, _/_, _%_, min, _≤_, _<_}
 use native.Mathlib.Omega.{arith}
 use lib.IntN.{ℤ, pos, _+ℤ_, _-ℤ_, _*ℤ_}
 use lib.Signed.{ltZ}
-use lib.Dec.{T, eqb, ltb, leb, eqb→eq, ltb→lt, leb→le, lit<}
+use lib.Dec.{T, eqb, ltb, leb, eqb→eq, leb→le, lit<}
 use lib.ListN.{length, getD, length-map}
-use Rattle.lists.specs.Lists.{range, keep, any, all, each}
-use Rattle.lists.proofs.Member.{and-left, and-right, in-range}
+use Rattle.lists.specs.Lists.{range, keep, any, all}
+use Rattle.lists.proofs.Member.{and-right, in-range}
 use Rattle.lists.proofs.Every.{All, all-test, all-weak, all-at, all-getD, all-in, all-map, all-keep, all-each, each-le}
 use Rattle.lists.proofs.Runs.{first-lt}
-use Rattle.paper.specs.declared.Sizes.{Sizes}
 use Rattle.paper.specs.declared.Place.{Place}
-use Rattle.paper.specs.Lattice.{Lattice, corner, cubeAt}
+use Rattle.paper.specs.Lattice.{Lattice, cubeAt}
 use Rattle.paper.specs.Tables.{Ends, Tet, Tri, ends, tet, tri, tets, rows, tetEdges, kinds, low, joins, kindOf}
 use Rattle.paper.specs.Sheet.{edgeNo, split, cubeEdges, weight, rowOf, rowAt, triEdges, cubeTriangles}
 
@@ -231,6 +230,10 @@ kindAgrees e = ltb 0 (span e) && ltb (span e) 8 && eqb (kindOf e) (getD kindsByS
 pub kinds-agree : T (everyEdge kindAgrees)
 unfolding everyEdge kindAgrees span kindsBySpan tets tetEdges kinds kindOf joins low
 kinds-agree = tt
+
+pub kind-by-span : (e : Ends) → T (kindAgrees e) → kindOf e ≡ getD kindsBySpan (span e) 0
+unfolding kindAgrees
+kind-by-span e h = eqb→eq (kindOf e) (getD kindsBySpan (span e) 0) (and-right (ltb 0 (span e) && ltb (span e) 8) _ h)
 
 -- the kind of any pair of corners is one of the seven
 pub kind-lt : (e : Ends) → kindOf e < 7

@@ -202,6 +202,7 @@ table =
     ∷ row-of (builds 9 9 (lat 2 2 65 []) Unnamed) (1 ∷ 0 ∷ 0 ∷ 0 ∷ [])
     ∷ row-of (builds 9 9 (lat 2 65 2 []) Unnamed) (1 ∷ 0 ∷ 0 ∷ 0 ∷ [])
     ∷ row-of (builds 9 9 (lat 65 2 2 []) Unnamed) (1 ∷ 0 ∷ 0 ∷ 0 ∷ [])
+    ∷ row-of (builds 9 9 (lat 64 64 64 []) Unnamed) (2 ∷ 0 ∷ 0 ∷ 0 ∷ [])
     ∷ row-of (builds 9 9 (lat 2 2 2 (replicate 7 a)) Unnamed) (2 ∷ 0 ∷ 0 ∷ 0 ∷ [])
     ∷ row-of (builds 9 9 (lat 2 2 2 (replicate 9 a)) Unnamed) (2 ∷ 0 ∷ 0 ∷ 0 ∷ [])
     -- what is left in the lent slices, and 3 before 4
