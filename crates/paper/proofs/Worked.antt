@@ -5,7 +5,9 @@ use mathlib.Core.Bool.{Bool, true, false, xor}
 use mathlib.Core.List.{List, [], _∷_, _++_, map}
 use Prim.Native.Nat.{ℕ, _+_, _-_, _*_, _/_}
 use lib.IntN.{ℤ, pos, negsuc, natAbs}
-use lib.ListN.{length, replicate, take, drop}
+use lib.Dec.{eqb}
+use lib.ListN.{length, getD, replicate, take, drop}
+use Rattle.lists.specs.Lists.{range, keep}
 use Rattle.lists.specs.Bytes.{field}
 use Rattle.lists.specs.Reach.{grow, rounds, reached}
 use Rattle.paper.specs.declared.Sizes.{Sizes}
@@ -17,7 +19,7 @@ use Rattle.paper.specs.declared.Wrote.{Wrote}
 use Rattle.paper.specs.declared.Got.{Got}
 use Rattle.paper.specs.Lattice.{Lattice, lattice, place, axis, axes, samples, air, sampleNo, sampleAt, valueAt, airAt, cubes, cubeNo, cubeAt, corner, mixed, mixedAt, crossed, inLattice, faces, stepOver, steps, visited, lowest}
 use Rattle.paper.specs.Tables.{tets, rows, tetEdges, kinds, low, joins, kindOf}
-use Rattle.paper.specs.Sheet.{Sheet, edgeNo, split, cubeEdges, vertexEdges, crossing, coordinate, recordAt, vertexRecord, rowOf, rowAt, tetEdge, triEdges, cubeTriangles, numbered, sheetOf, vertexWords, triangleWords}
+use Rattle.paper.specs.Sheet.{Sheet, edgeNo, split, cubeEdges, vertexEdges, crossing, coordinate, recordAt, vertexRecord, weight, rowOf, rowAt, tetEdge, triEdges, cubeTriangles, numbered, sheetOf, vertexWords, triangleWords}
 use Rattle.paper.specs.Build.{Lent, lent, roomy, startOf, sampleTests, roomTests, buildNumber, built, workAfter, outputAfter, lentAfter}
 use Rattle.paper.specs.File.{Content, contentOf, bits32, signed32, trailerAt, fileLength, trailerBytes, fileBytes, badTriangle, firstBad, limits, writeVerdict, wrote, trailer, fileV, fileT, fileSizes, fileVertices, fileTriangles, laidOut, fileTests, readVerdict, got}
 use Rattle.paper.specs.Check.{sameSizes, sameTriangle, turned, recordOf, edgeOf, badRecord, cornerOf, triangleOf, badNaming, complete, sheetTests, checked}
@@ -26,17 +28,23 @@ data Case : Type 0 where
   -- the number and the counts of a build, with room for so many vertices and triangles
   builds : ℕ → ℕ → Lattice → Start → Case
   -- the numbers of the vertices and of the triangles
-  lists : Lattice → Case
+  lists : Lattice → Start → Case
   -- the file's length, and its trailer's numbers
   files : Lattice → Case
   -- the check of the lattice's own file, but with these triangles
   checks : Lattice → List ℕ → Case
   -- the check of a file with these vertices and triangles, of these sizes
   checksFile : Lattice → Sizes → List ℤ → List ℕ → Case
+  -- the check of these bytes
+  checksBytes : Lattice → List ℕ → Case
   -- t
   crosses : ℤ → ℤ → Case
   -- the number of a build, and then what each lent slice holds
   leaves : Lattice → Start → Lent → Case
+  -- the numbers up to 30 after which work room is cleared
+  clears : Case
+  -- 1 where so many vertices and triangles are within the limits of a file
+  limited : ℕ → ℕ → Case
   -- the answer of a writer: number, place and bytes
   writes : Sizes → ℕ → ℕ → List ℤ → List ℕ → ℕ → Case
   -- the bytes of a file
@@ -95,12 +103,15 @@ fourth n = n / 4
 outcome : Case → List ℕ
 unfolding third fourth grow rounds reached axis axes samples air sampleNo sampleAt valueAt airAt cubes cubeNo cubeAt corner mixed mixedAt crossed inLattice faces stepOver steps visited lowest tets rows tetEdges kinds low joins kindOf edgeNo split cubeEdges vertexEdges crossing coordinate recordAt vertexRecord rowOf rowAt tetEdge triEdges cubeTriangles numbered sheetOf vertexWords triangleWords xor roomy sampleTests roomTests buildNumber built workAfter outputAfter lentAfter field bits32 signed32 trailerAt fileLength trailerBytes fileBytes badTriangle firstBad limits writeVerdict wrote trailer fileV fileT fileSizes fileVertices fileTriangles laidOut fileTests readVerdict got sameSizes sameTriangle turned recordOf edgeOf badRecord cornerOf triangleOf badNaming complete sheetTests checked
 outcome (builds nv nt L s) = answer (built L s (room nv nt))
-outcome (lists L) = listed L (sheetOf L (startOf L Unnamed))
+outcome (lists L s) = listed L (sheetOf L (startOf L s))
 outcome (files L) = let S = sheetOf L (startOf L Unnamed) in filed (file L S (length (S .triangles)) (triangleWords S))
 outcome (checks L ts) = says (checked L Unnamed (file L (sheetOf L (startOf L Unnamed)) (third (length ts)) ts) 30 30 200)
 outcome (checksFile L z vs ts) = says (checked L Unnamed (fileBytes (contentOf z (fourth (length vs)) (third (length ts)) vs ts)) 30 30 200)
+outcome (checksBytes L bs) = says (checked L Unnamed bs 30 30 200)
 outcome (crosses p q) = crossing p q ∷ []
 outcome (leaves L s l) = buildNumber L s l ∷ numbers (lentAfter L s l)
+outcome clears = keep (λ n. eqb (getD (workAfter n 1 (5 ∷ 5 ∷ [])) 0 0) 0) (range 0 31)
+outcome (limited nv nt) = weight (limits nv nt) 1 ∷ []
 outcome (writes z nv nt vs ts room) = written (wrote z nv nt vs ts room)
 outcome (bytes c) = fileBytes c
 outcome (reads bs vs ts) = read (got bs vs ts)
@@ -137,6 +148,17 @@ steep = lat 2 2 2 (a ∷ replicate 7 (negsuc 1))
 abbrev far-air : Lattice
 far-air = lat 2 2 2 (o ∷ o ∷ o ∷ o ∷ o ∷ a ∷ o ∷ a ∷ [])
 
+-- with far-air and rtn-air, these two use every row
+abbrev five-air : Lattice
+five-air = lat 2 2 2 (a ∷ o ∷ a ∷ o ∷ a ∷ a ∷ a ∷ o ∷ [])
+
+abbrev split-air : Lattice
+split-air = lat 2 2 2 (a ∷ a ∷ o ∷ a ∷ a ∷ o ∷ o ∷ a ∷ [])
+
+-- only (2, 0, 0), (0, 3, 1) and (2, 3, 2) air, in three pieces
+abbrev uneven : Lattice
+uneven = lat 3 4 3 (o ∷ o ∷ a ∷ replicate 18 o ++ a ∷ negsuc 2 ∷ replicate 12 o ++ a ∷ [])
+
 -- slices of these lengths, full of 9, 8, 5, 6 and 7
 abbrev used : ℕ → ℕ → ℕ → ℕ → ℕ → Lent
 used vs ts cw wl es = lent (replicate vs (pos 9)) (replicate ts 8) (replicate cw 5) (replicate wl 6) (replicate es 7)
@@ -158,7 +180,7 @@ row-of c l = record { case = c; is = l }
 table : List Row
 table =
     row-of (builds 100 100 first-air Unnamed) (0 ∷ 3 ∷ 1 ∷ 1 ∷ [])
-    ∷ row-of (lists first-air) (0 ∷ 49152 ∷ 0 ∷ 0 ∷ 1 ∷ 0 ∷ 49152 ∷ 0 ∷ 2 ∷ 0 ∷ 0 ∷ 49152 ∷ 1 ∷ 2 ∷ 0 ∷ [])
+    ∷ row-of (lists first-air Unnamed) (0 ∷ 49152 ∷ 0 ∷ 0 ∷ 1 ∷ 0 ∷ 49152 ∷ 0 ∷ 2 ∷ 0 ∷ 0 ∷ 49152 ∷ 1 ∷ 2 ∷ 0 ∷ [])
     ∷ row-of (files first-air) (84 ∷ 60 ∷ 3 ∷ 12 ∷ 1 ∷ 2 ∷ 2 ∷ 2 ∷ 21331 ∷ [])
     ∷ row-of (builds 100 100 rtn-air Unnamed) (0 ∷ 6 ∷ 5 ∷ 1 ∷ [])
     ∷ row-of (builds 100 100 middle-air (at 0 0 0)) (0 ∷ 14 ∷ 24 ∷ 8 ∷ [])
@@ -185,11 +207,16 @@ table =
     ∷ row-of (crosses (negsuc 1) (pos 1)) (43690 ∷ [])
     ∷ row-of (crosses (negsuc 32767) (pos 32767)) (32768 ∷ [])
     ∷ row-of (crosses (negsuc 32767) (pos 1)) (65534 ∷ [])
-    -- 0 beside 1, a crossing that is no whole number of units, rows 1 and 3, kinds 3 and 4
-    ∷ row-of (lists rtn-air) (6 ∷ 32768 ∷ 32768 ∷ 32768 ∷ 8 ∷ 65536 ∷ 32768 ∷ 0 ∷ 10 ∷ 65536 ∷ 32768 ∷ 32768 ∷ 14 ∷ 32768 ∷ 65536 ∷ 0 ∷ 18 ∷ 32768 ∷ 65536 ∷ 32768 ∷ 23 ∷ 65536 ∷ 65536 ∷ 32768 ∷ 3 ∷ 1 ∷ 0 ∷ 3 ∷ 0 ∷ 4 ∷ 1 ∷ 2 ∷ 0 ∷ 0 ∷ 2 ∷ 4 ∷ 4 ∷ 2 ∷ 5 ∷ [])
-    ∷ row-of (lists zero-solid) (0 ∷ 0 ∷ 0 ∷ 0 ∷ 4 ∷ 0 ∷ 0 ∷ 65536 ∷ 5 ∷ 0 ∷ 65536 ∷ 0 ∷ 8 ∷ 65536 ∷ 65536 ∷ 0 ∷ 9 ∷ 65536 ∷ 0 ∷ 65536 ∷ 0 ∷ 1 ∷ 2 ∷ 2 ∷ 1 ∷ 3 ∷ 3 ∷ 1 ∷ 4 ∷ [])
-    ∷ row-of (lists steep) (0 ∷ 21846 ∷ 0 ∷ 0 ∷ 1 ∷ 0 ∷ 21846 ∷ 0 ∷ 2 ∷ 0 ∷ 0 ∷ 21846 ∷ 1 ∷ 2 ∷ 0 ∷ [])
-    ∷ row-of (lists far-air) (9 ∷ 65536 ∷ 0 ∷ 32768 ∷ 10 ∷ 65536 ∷ 32768 ∷ 32768 ∷ 23 ∷ 65536 ∷ 65536 ∷ 32768 ∷ 28 ∷ 32768 ∷ 0 ∷ 65536 ∷ 33 ∷ 32768 ∷ 32768 ∷ 65536 ∷ 42 ∷ 32768 ∷ 65536 ∷ 65536 ∷ 0 ∷ 3 ∷ 1 ∷ 3 ∷ 4 ∷ 1 ∷ 1 ∷ 4 ∷ 5 ∷ 1 ∷ 5 ∷ 2 ∷ [])
+    -- every row and kind; 0 beside 1; a crossing that is no whole number of units; three axes that differ
+    ∷ row-of (lists rtn-air Unnamed) (6 ∷ 32768 ∷ 32768 ∷ 32768 ∷ 8 ∷ 65536 ∷ 32768 ∷ 0 ∷ 10 ∷ 65536 ∷ 32768 ∷ 32768 ∷ 14 ∷ 32768 ∷ 65536 ∷ 0 ∷ 18 ∷ 32768 ∷ 65536 ∷ 32768 ∷ 23 ∷ 65536 ∷ 65536 ∷ 32768 ∷ 3 ∷ 1 ∷ 0 ∷ 3 ∷ 0 ∷ 4 ∷ 1 ∷ 2 ∷ 0 ∷ 0 ∷ 2 ∷ 4 ∷ 4 ∷ 2 ∷ 5 ∷ [])
+    ∷ row-of (lists zero-solid Unnamed) (0 ∷ 0 ∷ 0 ∷ 0 ∷ 4 ∷ 0 ∷ 0 ∷ 65536 ∷ 5 ∷ 0 ∷ 65536 ∷ 0 ∷ 8 ∷ 65536 ∷ 65536 ∷ 0 ∷ 9 ∷ 65536 ∷ 0 ∷ 65536 ∷ 0 ∷ 1 ∷ 2 ∷ 2 ∷ 1 ∷ 3 ∷ 3 ∷ 1 ∷ 4 ∷ [])
+    ∷ row-of (lists steep Unnamed) (0 ∷ 21846 ∷ 0 ∷ 0 ∷ 1 ∷ 0 ∷ 21846 ∷ 0 ∷ 2 ∷ 0 ∷ 0 ∷ 21846 ∷ 1 ∷ 2 ∷ 0 ∷ [])
+    ∷ row-of (lists far-air Unnamed) (9 ∷ 65536 ∷ 0 ∷ 32768 ∷ 10 ∷ 65536 ∷ 32768 ∷ 32768 ∷ 23 ∷ 65536 ∷ 65536 ∷ 32768 ∷ 28 ∷ 32768 ∷ 0 ∷ 65536 ∷ 33 ∷ 32768 ∷ 32768 ∷ 65536 ∷ 42 ∷ 32768 ∷ 65536 ∷ 65536 ∷ 0 ∷ 3 ∷ 1 ∷ 3 ∷ 4 ∷ 1 ∷ 1 ∷ 4 ∷ 5 ∷ 1 ∷ 5 ∷ 2 ∷ [])
+    ∷ row-of (lists five-air Unnamed) (0 ∷ 32768 ∷ 0 ∷ 0 ∷ 4 ∷ 32768 ∷ 0 ∷ 32768 ∷ 5 ∷ 32768 ∷ 32768 ∷ 0 ∷ 6 ∷ 32768 ∷ 32768 ∷ 32768 ∷ 9 ∷ 65536 ∷ 0 ∷ 32768 ∷ 10 ∷ 65536 ∷ 32768 ∷ 32768 ∷ 14 ∷ 32768 ∷ 65536 ∷ 0 ∷ 18 ∷ 32768 ∷ 65536 ∷ 32768 ∷ 36 ∷ 65536 ∷ 32768 ∷ 65536 ∷ 42 ∷ 32768 ∷ 65536 ∷ 65536 ∷ 1 ∷ 0 ∷ 2 ∷ 6 ∷ 3 ∷ 1 ∷ 6 ∷ 1 ∷ 2 ∷ 6 ∷ 7 ∷ 3 ∷ 5 ∷ 4 ∷ 1 ∷ 5 ∷ 1 ∷ 3 ∷ 3 ∷ 7 ∷ 5 ∷ 5 ∷ 7 ∷ 9 ∷ 5 ∷ 9 ∷ 8 ∷ [])
+    ∷ row-of (lists split-air Unnamed) (1 ∷ 0 ∷ 32768 ∷ 0 ∷ 3 ∷ 0 ∷ 32768 ∷ 32768 ∷ 5 ∷ 32768 ∷ 32768 ∷ 0 ∷ 9 ∷ 65536 ∷ 0 ∷ 32768 ∷ 10 ∷ 65536 ∷ 32768 ∷ 32768 ∷ 14 ∷ 32768 ∷ 65536 ∷ 0 ∷ 18 ∷ 32768 ∷ 65536 ∷ 32768 ∷ 28 ∷ 32768 ∷ 0 ∷ 65536 ∷ 29 ∷ 0 ∷ 32768 ∷ 65536 ∷ 36 ∷ 65536 ∷ 32768 ∷ 65536 ∷ 42 ∷ 32768 ∷ 65536 ∷ 65536 ∷ 0 ∷ 1 ∷ 2 ∷ 5 ∷ 2 ∷ 1 ∷ 5 ∷ 1 ∷ 8 ∷ 5 ∷ 8 ∷ 6 ∷ 3 ∷ 4 ∷ 7 ∷ 4 ∷ 6 ∷ 8 ∷ 4 ∷ 8 ∷ 7 ∷ 6 ∷ 4 ∷ 9 ∷ 6 ∷ 9 ∷ 10 ∷ [])
+    ∷ row-of (lists uneven Unnamed) (7 ∷ 98304 ∷ 0 ∷ 0 ∷ 11 ∷ 98304 ∷ 0 ∷ 32768 ∷ 12 ∷ 98304 ∷ 32768 ∷ 0 ∷ 15 ∷ 131072 ∷ 32768 ∷ 0 ∷ 16 ∷ 131072 ∷ 0 ∷ 32768 ∷ 0 ∷ 1 ∷ 2 ∷ 2 ∷ 1 ∷ 3 ∷ 3 ∷ 1 ∷ 4 ∷ [])
+    ∷ row-of (lists uneven (at 0 2 1)) (65 ∷ 0 ∷ 196608 ∷ 32768 ∷ 67 ∷ 32768 ∷ 196608 ∷ 32768 ∷ 127 ∷ 0 ∷ 163840 ∷ 65536 ∷ 129 ∷ 0 ∷ 163840 ∷ 98304 ∷ 131 ∷ 32768 ∷ 163840 ∷ 65536 ∷ 147 ∷ 16384 ∷ 196608 ∷ 65536 ∷ 149 ∷ 0 ∷ 196608 ∷ 98304 ∷ 1 ∷ 2 ∷ 0 ∷ 1 ∷ 4 ∷ 2 ∷ 1 ∷ 5 ∷ 4 ∷ 2 ∷ 4 ∷ 3 ∷ 5 ∷ 3 ∷ 4 ∷ 5 ∷ 6 ∷ 3 ∷ [])
+    ∷ row-of (lists uneven (at 1 2 1)) (163 ∷ 131072 ∷ 196608 ∷ 98304 ∷ 225 ∷ 131072 ∷ 163840 ∷ 131072 ∷ 238 ∷ 98304 ∷ 196608 ∷ 131072 ∷ 0 ∷ 1 ∷ 2 ∷ [])
     -- steps: across a mixed face, and not across a face of solid corners between crossed cubes
     ∷ row-of (builds 100 100 (lat 3 3 2 (o ∷ a ∷ replicate 16 o)) Unnamed) (0 ∷ 6 ∷ 4 ∷ 2 ∷ [])
     ∷ row-of (builds 100 100 (lat 3 2 2 (a ∷ o ∷ a ∷ replicate 9 o)) Unnamed) (0 ∷ 3 ∷ 1 ∷ 1 ∷ [])
@@ -213,6 +240,7 @@ table =
     ∷ row-of (leaves first-air (at 1 0 0) (used 12 3 1 0 56)) (3 ∷ numbers (used 12 3 1 0 56))
     ∷ row-of (leaves first-air (at 1 0 0) (used 12 3 1 1 55)) (3 ∷ numbers (used 12 3 1 1 55))
     ∷ row-of (leaves first-air (at 1 0 0) (used 12 3 1 1 56)) (4 ∷ numbers (used 12 3 1 1 56))
+    ∷ row-of clears (0 ∷ 6 ∷ 7 ∷ 17 ∷ 18 ∷ 19 ∷ [])
     -- writing
     ∷ row-of (writes (sizes 64 64 64) 3 1 (replicate 12 (pos 0)) (1 ∷ 2 ∷ 0 ∷ []) 84) (0 ∷ 0 ∷ 84 ∷ [])
     ∷ row-of (writes (sizes 2 2 2) 3 1 (replicate 12 (pos 0)) (1 ∷ 2 ∷ 0 ∷ []) 83) (8 ∷ 0 ∷ 0 ∷ [])
@@ -221,6 +249,9 @@ table =
     ∷ row-of (writes (sizes 2 2 2) 4 1 (replicate 12 (pos 0)) (1 ∷ 3 ∷ 0 ∷ []) 0) (9 ∷ 0 ∷ 0 ∷ [])
     ∷ row-of (writes (sizes 2 2 2) 3 2 (replicate 12 (pos 0)) (1 ∷ 3 ∷ 0 ∷ []) 0) (9 ∷ 0 ∷ 0 ∷ [])
     ∷ row-of (writes (sizes 2 2 2) 3 2 (replicate 12 (pos 0)) (1 ∷ 2 ∷ 0 ∷ 0 ∷ 1 ∷ 3 ∷ []) 0) (15 ∷ 1 ∷ 0 ∷ [])
+    ∷ row-of (limited 2000000 4000000) (1 ∷ [])
+    ∷ row-of (limited 2000001 4000000) (0 ∷ [])
+    ∷ row-of (limited 2000000 4000001) (0 ∷ [])
     -- bytes, and reading
     ∷ row-of (bytes (contentOf (sizes 2 3 64) 1 1 (negsuc 1 ∷ pos 258 ∷ pos 0 ∷ negsuc 2147483647 ∷ []) (0 ∷ 4294967295 ∷ 65536 ∷ []))) (254 ∷ 255 ∷ 255 ∷ 255 ∷ 2 ∷ 1 ∷ 0 ∷ 0 ∷ 0 ∷ 0 ∷ 0 ∷ 0 ∷ 0 ∷ 0 ∷ 0 ∷ 128 ∷ 0 ∷ 0 ∷ 0 ∷ 0 ∷ 255 ∷ 255 ∷ 255 ∷ 255 ∷ 0 ∷ 0 ∷ 1 ∷ 0 ∷ 28 ∷ 0 ∷ 0 ∷ 0 ∷ 1 ∷ 0 ∷ 0 ∷ 0 ∷ 12 ∷ 0 ∷ 0 ∷ 0 ∷ 1 ∷ 0 ∷ 0 ∷ 0 ∷ 2 ∷ 0 ∷ 3 ∷ 0 ∷ 64 ∷ 0 ∷ 83 ∷ 83 ∷ [])
     ∷ row-of (rereads first-air) (0 ∷ 49152 ∷ 0 ∷ 0 ∷ 1 ∷ 0 ∷ 49152 ∷ 0 ∷ 2 ∷ 0 ∷ 0 ∷ 49152 ∷ 1 ∷ 2 ∷ 0 ∷ [])
@@ -238,6 +269,12 @@ table =
     ∷ row-of (checksFile first-air (sizes 2 2 2) (pos 0 ∷ pos 49152 ∷ pos 0 ∷ pos 0 ∷ pos 1 ∷ pos 0 ∷ pos 49152 ∷ pos 0 ∷ pos 3 ∷ pos 0 ∷ pos 0 ∷ pos 49152 ∷ []) (1 ∷ 2 ∷ 0 ∷ [])) (17 ∷ 2 ∷ [])
     ∷ row-of (checksFile first-air (sizes 2 2 2) (pos 0 ∷ pos 49152 ∷ pos 0 ∷ pos 0 ∷ pos 1 ∷ pos 0 ∷ pos 49152 ∷ pos 0 ∷ []) []) (19 ∷ 0 ∷ [])
     ∷ row-of (checksFile first-air (sizes 2 2 2) (pos 0 ∷ pos 49152 ∷ pos 0 ∷ pos 0 ∷ pos 1 ∷ pos 0 ∷ pos 49152 ∷ pos 0 ∷ []) (0 ∷ 1 ∷ 2 ∷ [])) (15 ∷ 0 ∷ [])
+    -- the order of its tests
+    ∷ row-of (checksBytes (lat 2 2 2 (replicate 8 o)) []) (5 ∷ 0 ∷ [])
+    ∷ row-of (checksBytes first-air (drop 29 small-file)) (11 ∷ 0 ∷ [])
+    ∷ row-of (checksBytes first-air (take 51 small-file)) (12 ∷ 0 ∷ [])
+    ∷ row-of (checksBytes first-air (drop 1 small-file)) (14 ∷ 0 ∷ [])
+    ∷ row-of (checksBytes first-air small-file) (16 ∷ 0 ∷ [])
     ∷ []
 
 worked : map (λ r. outcome (r .case)) table ≡ map (λ r. r .is) table
