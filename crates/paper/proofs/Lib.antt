@@ -5,5 +5,6 @@ pub mod Tables
 pub mod Edges
 pub mod Crossing
 pub mod Listing
+pub mod Limits
 pub mod Visits
 pub mod Steps

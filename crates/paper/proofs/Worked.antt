@@ -6,7 +6,7 @@ use mathlib.Core.List.{List, [], _∷_, _++_, map}
 use Prim.Native.Nat.{ℕ, _+_, _-_, _*_, _/_}
 use lib.IntN.{ℤ, pos, negsuc, natAbs}
 use lib.Dec.{eqb}
-use lib.ListN.{length, getD, replicate, take, drop}
+use lib.ListN.{length, getD, set, replicate, take, drop}
 use Rattle.lists.specs.Lists.{range, keep}
 use Rattle.lists.specs.Bytes.{field}
 use Rattle.lists.specs.Reach.{grow, rounds, reached}
@@ -51,6 +51,10 @@ data Case : Type 0 where
   bytes : Content → Case
   -- the answer of a reader: number, place, counts and sizes
   reads : List ℕ → List ℤ → List ℕ → Case
+  -- its answer to the file of a content, with slices of these lengths
+  readsFile : Content → ℕ → ℕ → Case
+  -- a signed number read from bits: twice n for n, one more than twice n for −1 − n
+  signs : ℕ → Case
   -- the numbers that it reads from the lattice's own file
   rereads : Lattice → Case
 
@@ -94,6 +98,10 @@ abbrev read : Got → List ℕ
 read g =
     g .number ∷ g .place ∷ g .vertices ∷ g .triangles ∷ g .sizes .nx ∷ g .sizes .ny ∷ g .sizes .nz ∷ []
 
+abbrev folded : ℤ → ℕ
+folded (pos n) = 2 * n
+folded (negsuc n) = 2 * n + 1
+
 third : ℕ → ℕ
 third n = n / 3
 
@@ -115,6 +123,8 @@ outcome (limited nv nt) = weight (limits nv nt) 1 ∷ []
 outcome (writes z nv nt vs ts room) = written (wrote z nv nt vs ts room)
 outcome (bytes c) = fileBytes c
 outcome (reads bs vs ts) = read (got bs vs ts)
+outcome (readsFile c nv nt) = read (got (fileBytes c) (replicate nv (pos 0)) (replicate nt 0))
+outcome (signs n) = folded (signed32 n) ∷ []
 outcome (rereads L) =
     let S = sheetOf L (startOf L Unnamed) in
     let bs = file L S (length (S .triangles)) (triangleWords S) in
@@ -217,11 +227,14 @@ table =
     ∷ row-of (lists uneven Unnamed) (7 ∷ 98304 ∷ 0 ∷ 0 ∷ 11 ∷ 98304 ∷ 0 ∷ 32768 ∷ 12 ∷ 98304 ∷ 32768 ∷ 0 ∷ 15 ∷ 131072 ∷ 32768 ∷ 0 ∷ 16 ∷ 131072 ∷ 0 ∷ 32768 ∷ 0 ∷ 1 ∷ 2 ∷ 2 ∷ 1 ∷ 3 ∷ 3 ∷ 1 ∷ 4 ∷ [])
     ∷ row-of (lists uneven (at 0 2 1)) (65 ∷ 0 ∷ 196608 ∷ 32768 ∷ 67 ∷ 32768 ∷ 196608 ∷ 32768 ∷ 127 ∷ 0 ∷ 163840 ∷ 65536 ∷ 129 ∷ 0 ∷ 163840 ∷ 98304 ∷ 131 ∷ 32768 ∷ 163840 ∷ 65536 ∷ 147 ∷ 16384 ∷ 196608 ∷ 65536 ∷ 149 ∷ 0 ∷ 196608 ∷ 98304 ∷ 1 ∷ 2 ∷ 0 ∷ 1 ∷ 4 ∷ 2 ∷ 1 ∷ 5 ∷ 4 ∷ 2 ∷ 4 ∷ 3 ∷ 5 ∷ 3 ∷ 4 ∷ 5 ∷ 6 ∷ 3 ∷ [])
     ∷ row-of (lists uneven (at 1 2 1)) (163 ∷ 131072 ∷ 196608 ∷ 98304 ∷ 225 ∷ 131072 ∷ 163840 ∷ 131072 ∷ 238 ∷ 98304 ∷ 196608 ∷ 131072 ∷ 0 ∷ 1 ∷ 2 ∷ [])
-    -- steps: across a mixed face, and not across a face of solid corners between crossed cubes
+    -- steps: across a mixed face, and not across a face all solid or all air between crossed cubes
     ∷ row-of (builds 100 100 (lat 3 3 2 (o ∷ a ∷ replicate 16 o)) Unnamed) (0 ∷ 6 ∷ 4 ∷ 2 ∷ [])
     ∷ row-of (builds 100 100 (lat 3 2 2 (a ∷ o ∷ a ∷ replicate 9 o)) Unnamed) (0 ∷ 3 ∷ 1 ∷ 1 ∷ [])
-    -- room to the last vertex and triangle
+    ∷ row-of (builds 100 100 (lat 3 2 2 (o ∷ a ∷ o ∷ o ∷ a ∷ o ∷ o ∷ a ∷ o ∷ o ∷ a ∷ o ∷ [])) Unnamed) (0 ∷ 9 ∷ 8 ∷ 1 ∷ [])
+    ∷ row-of (builds 100 100 (lat 2 2 2 (replicate 8 a)) Unnamed) (5 ∷ 0 ∷ 0 ∷ 0 ∷ [])
+    -- room to the last vertex and triangle, and 6 before 7
     ∷ row-of (builds 14 24 middle-air Unnamed) (0 ∷ 14 ∷ 24 ∷ 8 ∷ [])
+    ∷ row-of (builds 13 23 middle-air Unnamed) (6 ∷ 14 ∷ 24 ∷ 8 ∷ [])
     -- axes and counts
     ∷ row-of (builds 9 9 (lat 2 2 1 []) Unnamed) (1 ∷ 0 ∷ 0 ∷ 0 ∷ [])
     ∷ row-of (builds 9 9 (lat 2 1 2 []) Unnamed) (1 ∷ 0 ∷ 0 ∷ 0 ∷ [])
@@ -261,6 +274,14 @@ table =
     ∷ row-of (reads (drop 1 small-file) (replicate 4 (pos 0)) (replicate 3 0)) (14 ∷ 0 ∷ 0 ∷ 0 ∷ 0 ∷ 0 ∷ 0 ∷ [])
     ∷ row-of (reads (drop 29 small-file) (replicate 4 (pos 0)) (replicate 3 0)) (11 ∷ 0 ∷ 0 ∷ 0 ∷ 0 ∷ 0 ∷ 0 ∷ [])
     ∷ row-of (reads (take 51 small-file) (replicate 4 (pos 0)) (replicate 3 0)) (12 ∷ 0 ∷ 0 ∷ 0 ∷ 0 ∷ 0 ∷ 0 ∷ [])
+    ∷ row-of (reads small-file (replicate 3 (pos 0)) (replicate 2 0)) (6 ∷ 0 ∷ 0 ∷ 0 ∷ 0 ∷ 0 ∷ 0 ∷ [])
+    ∷ row-of (reads (set small-file 28 29) (replicate 4 (pos 0)) (replicate 3 0)) (14 ∷ 0 ∷ 0 ∷ 0 ∷ 0 ∷ 0 ∷ 0 ∷ [])
+    ∷ row-of (reads (set small-file 36 13) (replicate 4 (pos 0)) (replicate 3 0)) (14 ∷ 0 ∷ 0 ∷ 0 ∷ 0 ∷ 0 ∷ 0 ∷ [])
+    ∷ row-of (reads (drop 1 (set small-file 48 65)) (replicate 4 (pos 0)) (replicate 3 0)) (1 ∷ 0 ∷ 0 ∷ 0 ∷ 0 ∷ 0 ∷ 0 ∷ [])
+    ∷ row-of (readsFile (contentOf (sizes 2 3 64) 1 2 (replicate 4 (pos 7)) (0 ∷ 0 ∷ 0 ∷ 0 ∷ 1 ∷ 0 ∷ [])) 0 0) (15 ∷ 1 ∷ 0 ∷ 0 ∷ 0 ∷ 0 ∷ 0 ∷ [])
+    ∷ row-of (signs 2147483647) (4294967294 ∷ [])
+    ∷ row-of (signs 2147483648) (4294967295 ∷ [])
+    ∷ row-of (signs 4294967295) (1 ∷ [])
     -- checking: records in another order; sizes, positions, edges and indices that are wrong
     ∷ row-of (checksFile first-air (sizes 2 2 2) (pos 2 ∷ pos 0 ∷ pos 0 ∷ pos 49152 ∷ pos 0 ∷ pos 49152 ∷ pos 0 ∷ pos 0 ∷ pos 1 ∷ pos 0 ∷ pos 49152 ∷ pos 0 ∷ []) (1 ∷ 2 ∷ 0 ∷ [])) (0 ∷ 0 ∷ [])
     ∷ row-of (checksFile first-air (sizes 2 2 3) (pos 2 ∷ pos 0 ∷ pos 0 ∷ pos 49152 ∷ pos 0 ∷ pos 49152 ∷ pos 0 ∷ pos 0 ∷ pos 1 ∷ pos 0 ∷ pos 49152 ∷ pos 0 ∷ []) (1 ∷ 2 ∷ 0 ∷ [])) (16 ∷ 0 ∷ [])
