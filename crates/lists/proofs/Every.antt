@@ -91,7 +91,12 @@ module _ {A : Type 0} where
   each-length f m h [] = omega arith
   each-length f m h (x ∷ xs) = omega (arith, length-append (f x) (each f xs), h x, each-length f m h xs)
 
-  -- something in the list passes: at a place, and back
+  -- something in the list passes: with what holds of each; at a place, and back
+  pub any-with : (P : A → Type 0) (p : A → Bool) (l : List A) → All P l → T (any p l) → (a : A) × P a × T (p a)
+  any-with P p [] h t = absurd t
+  any-with P p (x ∷ xs) h t =
+      elim (or-cases (p x) (any p xs) t) [ inl g ↦ (x, h .0, g) | inr r ↦ any-with P p xs (h .1) r ]
+
   pub any-at : (p : A → Bool) (l : List A) (d : A) → T (any p l) → (i : ℕ) × (i < length l) × T (p (getD l i d))
   any-at p [] d t = absurd t
   any-at p (x ∷ xs) d t =

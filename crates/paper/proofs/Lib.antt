@@ -7,4 +7,5 @@ pub mod Crossing
 pub mod Listing
 pub mod Limits
 pub mod Visits
+pub mod Finding
 pub mod Steps

@@ -136,11 +136,11 @@ abbrev pub named : List ℕ → Tri → Tri
 named es t = tri (getD es (t .a) 0) (getD es (t .b) 0) (getD es (t .c) 0)
 
 module _ (L : Lattice) (s : Sized (L .size)) (start : ℕ) where
-  visits-lt : All (λ k. k < cubes (L .size)) (visited L start)
+  pub visits-lt : All (λ k. k < cubes (L .size)) (visited L start)
   visits-lt = in-all (λ k. k < cubes (L .size)) (visited L start) (visited-lt L start)
 
   -- every edge of the triangles has a vertex
-  triangles-among : All (Among (vertexEdges L (visited L start))) (each (cubeTriangles L) (visited L start))
+  pub triangles-among : All (Among (vertexEdges L (visited L start))) (each (cubeTriangles L) (visited L start))
   triangles-among =
       let vs = visited L start in
       all-weak (Among (each (cubeEdges L) vs)) (Among (vertexEdges L vs))

@@ -284,6 +284,9 @@ table =
     ∷ row-of (signs 4294967295) (1 ∷ [])
     -- checking: records in another order; sizes, positions, edges and indices that are wrong
     ∷ row-of (checksFile first-air (sizes 2 2 2) (pos 2 ∷ pos 0 ∷ pos 0 ∷ pos 49152 ∷ pos 0 ∷ pos 49152 ∷ pos 0 ∷ pos 0 ∷ pos 1 ∷ pos 0 ∷ pos 49152 ∷ pos 0 ∷ []) (1 ∷ 2 ∷ 0 ∷ [])) (0 ∷ 0 ∷ [])
+    ∷ row-of (checksFile first-air (sizes 2 2 2) (pos 1 ∷ pos 0 ∷ pos 49152 ∷ pos 0 ∷ pos 0 ∷ pos 49152 ∷ pos 0 ∷ pos 0 ∷ pos 2 ∷ pos 0 ∷ pos 0 ∷ pos 49152 ∷ []) (0 ∷ 2 ∷ 1 ∷ [])) (0 ∷ 0 ∷ [])
+    ∷ row-of (checksFile first-air (sizes 2 2 2) (pos 1 ∷ pos 0 ∷ pos 49152 ∷ pos 0 ∷ pos 0 ∷ pos 49152 ∷ pos 0 ∷ pos 0 ∷ pos 2 ∷ pos 0 ∷ pos 0 ∷ pos 49152 ∷ []) (1 ∷ 2 ∷ 0 ∷ [])) (18 ∷ 0 ∷ [])
+    ∷ row-of (checks rtn-air (0 ∷ 4 ∷ 3 ∷ 1 ∷ 2 ∷ 0 ∷ 0 ∷ 2 ∷ 4 ∷ 4 ∷ 2 ∷ 5 ∷ 3 ∷ 1 ∷ 0 ∷ [])) (0 ∷ 0 ∷ [])
     ∷ row-of (checksFile first-air (sizes 2 2 3) (pos 2 ∷ pos 0 ∷ pos 0 ∷ pos 49152 ∷ pos 0 ∷ pos 49152 ∷ pos 0 ∷ pos 0 ∷ pos 1 ∷ pos 0 ∷ pos 49152 ∷ pos 0 ∷ []) (1 ∷ 2 ∷ 0 ∷ [])) (16 ∷ 0 ∷ [])
     ∷ row-of (checksFile first-air (sizes 2 2 2) (pos 0 ∷ pos 49152 ∷ pos 0 ∷ pos 0 ∷ pos 1 ∷ pos 0 ∷ pos 49152 ∷ pos 0 ∷ pos 2 ∷ pos 0 ∷ pos 0 ∷ pos 49153 ∷ []) (1 ∷ 2 ∷ 0 ∷ [])) (17 ∷ 2 ∷ [])
     ∷ row-of (checksFile first-air (sizes 2 2 2) (pos 0 ∷ pos 49152 ∷ pos 0 ∷ pos 0 ∷ pos 1 ∷ pos 0 ∷ pos 49152 ∷ pos 0 ∷ pos 1 ∷ pos 0 ∷ pos 49152 ∷ pos 0 ∷ []) (1 ∷ 2 ∷ 0 ∷ [])) (17 ∷ 2 ∷ [])
