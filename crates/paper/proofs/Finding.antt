@@ -1,10 +1,11 @@
 -- Finding a triangle in the sheet: its edges give the one cube that can hold it, read from any corner. Assumes nothing.
-use mathlib.Core.Path.{_≡_, sym, ap, subst, _∙_}
+use mathlib.Core.Path.{_≡_, refl, sym, ap, subst, _∙_}
 use mathlib.Core.Logic.{inl, inr}
-use mathlib.Core.Bool.{Bool, _&&_, _||_}
+use mathlib.Core.Bool.{Bool, false, _&&_, _||_}
 use Prim.Native.Nat.{ℕ, min}
 use native.Mathlib.Omega.{arith}
 use lib.Dec.{T, eqb, eqb→eq}
+use borrow.Author.Tests.{eq-eqb, ne-eqb}
 use Rattle.lists.specs.Lists.{any, isIn}
 use Rattle.lists.proofs.Member.{or-cases, and-both, and-left, and-right, and3, any-each, any-in, in-any}
 use Rattle.lists.proofs.Every.{any-with}
@@ -19,7 +20,14 @@ use Rattle.paper.proofs.Numbers.{cube-back}
 use Rattle.paper.proofs.Visits.{visited-lt}
 use Rattle.paper.proofs.Edges.{anchorOf, cubeOf, cube-triangles-cube}
 
--- ── a turned triangle gives the same cube ──
+-- ── turned triangles ──
+
+-- a mirrored triangle is not a turned one
+pub mirrored : (a b c : ℕ) → (a ≡ b → ⊥) → (b ≡ c → ⊥) → (c ≡ a → ⊥) → turned (tri a b c) (tri a c b) ≡ false
+unfolding turned sameTriangle
+mirrored a b c ab bc ca = rw (eq-eqb a a refl, ne-eqb b c bc, ne-eqb b a (λ e. ab (sym e)), ne-eqb c a ca)
+
+-- a turned triangle gives the same cube
 
 turn-min : (a b c : ℕ) → min (min b c) a ≡ min (min a b) c
 turn-min a b c = omega arith
