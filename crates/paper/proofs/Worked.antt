@@ -158,14 +158,14 @@ steep = lat 2 2 2 (a ∷ replicate 7 (negsuc 1))
 abbrev far-air : Lattice
 far-air = lat 2 2 2 (o ∷ o ∷ o ∷ o ∷ o ∷ a ∷ o ∷ a ∷ [])
 
--- with far-air and rtn-air, these two use every row
+-- with zero-solid and rtn-air, these two use every row
 abbrev five-air : Lattice
 five-air = lat 2 2 2 (a ∷ o ∷ a ∷ o ∷ a ∷ a ∷ a ∷ o ∷ [])
 
 abbrev split-air : Lattice
 split-air = lat 2 2 2 (a ∷ a ∷ o ∷ a ∷ a ∷ o ∷ o ∷ a ∷ [])
 
--- only (2, 0, 0), (0, 3, 1) and (2, 3, 2) air, in three pieces
+-- only (2, 0, 0), (0, 3, 1) and (2, 3, 2) air, in three pieces; (1, 3, 1) is −3
 abbrev uneven : Lattice
 uneven = lat 3 4 3 (o ∷ o ∷ a ∷ replicate 18 o ++ a ∷ negsuc 2 ∷ replicate 12 o ++ a ∷ [])
 
