@@ -1,5 +1,6 @@
 -- Laws of the definitions on lists.
 pub mod Member
+pub mod Every
 pub mod Rising
 pub mod Runs
 pub mod Closure

@@ -100,6 +100,10 @@ pub in-consIf : (b : Bool) (x k : ℕ) → T (isIn (consIf b x []) k) → T b ×
 in-consIf true x k t = elim (or-cases (eqb k x) false t) [ inl e ↦ (tt, eqb→eq k x e) | inr f ↦ absurd f ]
 in-consIf false x k t = absurd t
 
+pub consIf-in : (b : Bool) (x : ℕ) → T b → T (isIn (consIf b x []) x)
+consIf-in true x t = or-left (eqb x x) false (eqb-refl x)
+consIf-in false x t = absurd t
+
 -- those that passed
 keep-head : (p : ℕ → Bool) (x k : ℕ) (l r : List ℕ) (b e : Bool) → p x ≡ b → eqb k x ≡ e → isIn r k ≡ (isIn l k && p k)
     → isIn (consIf b x r) k ≡ ((e || isIn l k) && p k)

@@ -6,11 +6,12 @@ use mathlib.Core.List.{List, [], _∷_, _++_, map, append-assoc, map-append}
 use Prim.Native.Nat.{ℕ, zero, suc, _+_, _≤_, _<_}
 use native.Mathlib.Omega.{arith}
 use native.Mathlib.Nat.{add-zero, zero-add, add-suc, suc-add}
-use lib.Dec.{T, eqb, ltb}
+use lib.Dec.{T, eqb, ltb, eqb→eq}
 use lib.ListN.{length, getD}
 use lib.Arith.{lt-of-le-ne}
 use borrow.Author.Tests.{lt-ltb, le-ltb, eqb-true, eqb-false}
-use Rattle.lists.specs.Lists.{range, consIf, keep, each, first, rank}
+use Rattle.lists.specs.Lists.{range, consIf, keep, each, isIn, first, rank}
+use Rattle.lists.proofs.Member.{or-cases}
 use Rattle.lists.proofs.Rising.{Rising, keep-rising}
 
 pub range-snoc : (i n : ℕ) → range i (suc n) ≡ range i n ++ ((i + n) ∷ [])
@@ -55,6 +56,15 @@ first-at p d i (suc n) m a b h t =
         let l : i < m = lt-of-le-ne a (λ q. eqb-false m i e (sym q)) in
         ap (λ (b : Bool). cond b i (first p d (range (suc i) n))) (h i (omega arith) l) ∙ f l
 
+-- it lies below what the run and the default lie below
+pub first-lt : (p : ℕ → Bool) (d i n m : ℕ) → d < m → i + n ≤ m → first p d (range i n) < m
+first-lt p d i zero m h g = h
+first-lt p d i (suc n) m h g = go (p i) (first-lt p d (suc i) n m h (omega arith))
+  where
+    go : (b : Bool) → first p d (range (suc i) n) < m → cond b i (first p d (range (suc i) n)) < m
+    go true f = omega arith
+    go false f = f
+
 -- ranks: of what is kept of the numbers below n, the number of those below e is what is kept of the numbers below e
 none-below : (l : List ℕ) (b e : ℕ) → e ≤ b → Rising b l → keep (λ k. ltb k e) l ≡ []
 none-below [] b e h r = refl
@@ -94,3 +104,24 @@ module _ {A : Type 0} (f : ℕ → A) where
 
   pub along-snoc : (n : ℕ) → map f (range 0 (suc n)) ≡ map f (range 0 n) ++ (f n ∷ [])
   along-snoc n = ap (map f) (range-snoc 0 n ∙ ap (λ (k : ℕ). range 0 n ++ k ∷ []) (zero-add n)) ∙ map-append f (range 0 n) (n ∷ [])
+
+-- in a rising list, a number's rank is its place
+pub rising-ge : (l : List ℕ) (b e : ℕ) → Rising b l → T (isIn l e) → b ≤ e
+rising-ge [] b e r t = absurd t
+rising-ge (x ∷ xs) b e r t =
+    elim (or-cases (eqb e x) (isIn xs e) t)
+    [ inl q ↦ omega (arith, eqb→eq e x q, r .0) | inr q ↦ omega (arith, r .0, rising-ge xs (suc x) e (r .1) q) ]
+
+pub rank-place : (l : List ℕ) (b d e : ℕ) → Rising b l → T (isIn l e) → getD l (rank l e) d ≡ e
+rank-place [] b d e r t = absurd t
+rank-place (x ∷ xs) b d e r t = go (or-cases (eqb e x) (isIn xs e) t) (λ q. rank-place xs (suc x) d e (r .1) q)
+  where
+    at-head : (c : Bool) → ltb x e ≡ c → getD (x ∷ xs) (length (consIf (ltb x e) x (keep (λ m. ltb m e) xs))) d
+        ≡ getD (x ∷ xs) (length (consIf c x (keep (λ m. ltb m e) xs))) d
+    at-head c q = ap (λ (b′ : Bool). getD (x ∷ xs) (length (consIf b′ x (keep (λ m. ltb m e) xs))) d) q
+
+    go : T (eqb e x) ⊎ T (isIn xs e) → (T (isIn xs e) → getD xs (rank xs e) d ≡ e) → getD (x ∷ xs) (rank (x ∷ xs) e) d ≡ e
+    go (inl q) f =
+        at-head false (le-ltb x e (omega (arith, eqb→eq e x q)))
+        ∙ (ap (λ (l : List ℕ). getD (x ∷ xs) (length l) d) (none-below xs (suc x) e (omega (arith, eqb→eq e x q)) (r .1)) ∙ sym (eqb→eq e x q))
+    go (inr q) f = at-head true (lt-ltb x e (rising-ge xs (suc x) e (r .1) q)) ∙ f q

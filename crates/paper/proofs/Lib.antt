@@ -1,4 +1,11 @@
 -- Laws of the definitions.
 pub mod Worked
 pub mod Numbers
+pub mod Tables
+pub mod Edges
+pub mod Crossing
+pub mod Listing
+pub mod Limits
 pub mod Visits
+pub mod Finding
+pub mod Steps

@@ -15,9 +15,15 @@ use Rattle.paper.specs.Within.{Sized, CubeIn}
 use Rattle.paper.proofs.Numbers.{cube-lt}
 
 -- what test 1 and the test of a cube's place say
+first-le : (a b c d : ℕ) → T (leb a b && leb c d) → a ≤ b
+first-le a b c d t = leb→le a b (and-left (leb a b) (leb c d) t)
+
+second-le : (a b c d : ℕ) → T (leb a b && leb c d) → c ≤ d
+second-le a b c d t = leb→le c d (and-right (leb a b) (leb c d) t)
+
 axis-of : (n : ℕ) → T (axis n) → (2 ≤ n) × (n ≤ 64)
 unfolding axis
-axis-of n t = (leb→le 2 n (and-left (leb 2 n) (leb n 64) t), leb→le n 64 (and-right (leb 2 n) (leb n 64) t))
+axis-of n t = (omega (arith, first-le), omega (arith, second-le))
 
 pub sized : (z : Sizes) → T (axes z) → Sized z
 unfolding axes
