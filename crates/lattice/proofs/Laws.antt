@@ -7,6 +7,7 @@ use Rattle.paper.specs.declared.Sizes.{Sizes}
 use Rattle.paper.specs.declared.Place.{Place}
 use Rattle.paper.specs.Lattice.{place, samples, sampleNo, sampleAt, cubes, cubeNo, cubeAt, corner}
 use Rattle.paper.specs.Within.{Sized, SampleIn, CubeIn}
+use Rattle.lattice.specs.Steps.{cornerStep}
 use Rattle.paper.proofs.Numbers.{sample-place, cube-place, sample-lt, corner-inside}
 
 module _ (z : Sizes) (s : Sized z) where
@@ -85,12 +86,8 @@ module _ (z : Sizes) (s : Sized z) (p : Place) where
         sym (cube-place z (place 0 0 (p .z + 1)) (omega (arith, s .x-low)) (omega (arith, s .y-low)))
         ∙ ap (cubeAt z) (sym (carry-z (z .nx - 1) (z .ny - 1) (p .x) (p .y) (p .z) (omega (arith, i .x)) (omega (arith, i .y))))
 
--- how far the sample at a corner of a cube is from that at its lowest corner
-abbrev pub cornerStep : Sizes → ℕ → ℕ
-cornerStep z c = c % 2 + (z .nx * (c / 2 % 2) + z .nx * z .ny * (c / 4))
-
 pub corner-no : (z : Sizes) (p : Place) (c : ℕ) → sampleNo z (corner p c) ≡ sampleNo z p + cornerStep z c
-unfolding sampleNo corner
+unfolding sampleNo corner cornerStep
 corner-no z p c =
     let a = z .nx in
     let b = z .ny in
@@ -111,6 +108,7 @@ pub low-in : (z : Sizes) (p : Place) → CubeIn z p → SampleIn z p
 low-in z p h = record { x = omega (arith, h .x); y = omega (arith, h .y); z = omega (arith, h .z) }
 
 pub far-lt : (z : Sizes) (p : Place) → CubeIn z p → sampleNo z p + 1 + z .nx + z .nx * z .ny < samples z
+unfolding cornerStep
 far-lt z p h = omega (arith, corner-no z p 7, sample-lt z (corner p 7) (corner-inside z p h 7 (omega arith)))
 
 pub floor-few : (z : Sizes) → Sized z → z .nx * z .ny ≤ 4096

@@ -70,3 +70,10 @@ sixth (suc (suc zero)) h a b c d e = absurd (c refl)
 sixth (suc (suc (suc zero))) h a b c d e = absurd (d refl)
 sixth (suc (suc (suc (suc zero)))) h a b c d e = absurd (e refl)
 sixth (suc (suc (suc (suc (suc k))))) h a b c d e = omega arith
+
+-- at every pair of numbers below m and n
+abbrev pub grid : ℕ → ℕ → (ℕ → ℕ → Bool) → Bool
+grid m n f = upto m (λ i. upto n (f i))
+
+pub grid-at : (m n : ℕ) (f : ℕ → ℕ → Bool) → T (grid m n f) → (i j : ℕ) → i < m → j < n → T (f i j)
+grid-at m n f t i j hi hj = upto-at n (f i) (upto-at m (λ i. upto n (f i)) t i hi) j hj

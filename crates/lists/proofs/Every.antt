@@ -1,8 +1,8 @@
 -- Facts that hold of every entry of a list: made from a test that computes, carried through the functions on lists, and read at a
 -- place or at a member. Assumes nothing.
-use mathlib.Core.Path.{_≡_, sym, subst}
+use mathlib.Core.Path.{_≡_, refl, sym, ap, subst}
 use mathlib.Core.Logic.{inl, inr}
-use mathlib.Core.Bool.{Bool, true, false}
+use mathlib.Core.Bool.{Bool, true, false, _&&_, _||_}
 use mathlib.Core.List.{List, [], _∷_, _++_, map}
 use Prim.Native.Nat.{ℕ, zero, suc, _*_, _≤_, _<_}
 use native.Mathlib.Omega.{arith}
@@ -120,3 +120,32 @@ pub in-all : (P : ℕ → Type 0) (l : List ℕ) → ((k : ℕ) → T (isIn l k)
 in-all P [] h = tt
 in-all P (x ∷ xs) h =
     (h x (or-left (eqb x x) (isIn xs x) (eqb-refl x)), in-all P xs (λ k t. h k (or-right (eqb k x) (isIn xs k) t)))
+
+-- ── what is made element by element ──
+
+pub any-same : {A : Type 0} (p q : A → Bool) → ((x : A) → p x ≡ q x) → (l : List A) → any p l ≡ any q l
+any-same p q h [] = refl
+any-same p q h (x ∷ xs) = λ i. h x i || any-same p q h xs i
+
+module _ {A B : Type 0} where
+  pub each-same : (f g : A → List B) (l : List A) → All (λ x. f x ≡ g x) l → each f l ≡ each g l
+  each-same f g [] h = refl
+  each-same f g (x ∷ xs) h = λ i. h .0 i ++ each-same f g xs (h .1) i
+
+  pub map-same : (f g : A → B) → ((x : A) → f x ≡ g x) → (l : List A) → map f l ≡ map g l
+  map-same f g h [] = refl
+  map-same f g h (x ∷ xs) = λ i. h x i ∷ map-same f g h xs i
+
+  pub each-map : {C : Type 0} (f : B → List C) (g : A → B) (l : List A) → each f (map g l) ≡ each (λ x. f (g x)) l
+  each-map f g [] = refl
+  each-map f g (x ∷ xs) = ap (λ (l : List _). f (g x) ++ l) (each-map f g xs)
+
+  -- a test of what passed
+  pub any-map-keep : (p : B → Bool) (f : A → B) (q : A → Bool) (l : List A) → any p (map f (keep q l)) ≡ any (λ x. q x && p (f x)) l
+  any-map-keep p f q [] = refl
+  any-map-keep p f q (x ∷ xs) = go (q x) (any-map-keep p f q xs)
+    where
+      go : (b : Bool) → any p (map f (keep q xs)) ≡ any (λ x. q x && p (f x)) xs
+          → any p (map f (consIf b x (keep q xs))) ≡ ((b && p (f x)) || any (λ x. q x && p (f x)) xs)
+      go true e = ap (λ (c : Bool). p (f x) || c) e
+      go false e = e

@@ -6,3 +6,4 @@ pub mod Runs
 pub mod Closure
 pub mod Computed
 pub mod Stores
+pub mod Filled

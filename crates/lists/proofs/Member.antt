@@ -7,7 +7,7 @@ use Prim.Native.Nat.{ℕ, zero, suc, _+_, _≤_, _<_}
 use native.Mathlib.Omega.{arith}
 use native.Mathlib.Nat.{add-zero, add-suc, suc-add}
 use lib.Dec.{T, eqb, ltb, leb, eqb→eq, eqb-refl}
-use lib.ListN.{length, getD}
+use lib.ListN.{length}
 use lib.Arith.{lt-of-le-ne}
 use borrow.Author.Tests.{eqb-false}
 use Rattle.lists.specs.Lists.{range, consIf, keep, any, all, each, isIn}
@@ -80,20 +80,6 @@ in-any p (x ∷ xs) a t h =
       | inl e ↦ or-left (p x) (any p xs) (subst (λ (y : ℕ). T (p y)) (eqb→eq a x e) h)
       | inr r ↦ or-right (p x) (any p xs) (in-any p xs a r h)
     ]
-
--- some place of the list passes
-pub getD-some : {A : Type 0} (p : A → Bool) (d : A) (l : List A) → T (any p l) → (i : ℕ) × (i < length l) × T (p (getD l i d))
-getD-some p d [] t = absurd t
-getD-some p d (x ∷ xs) t =
-    elim (or-cases (p x) (any p xs) t) [
-      | inl a ↦ (0, omega arith, a)
-      | inr r ↦ (let w = getD-some p d xs r in (suc (w .0), omega (arith, w .1), w .2))
-    ]
-
-pub some-getD : {A : Type 0} (p : A → Bool) (d : A) (l : List A) (i : ℕ) → i < length l → T (p (getD l i d)) → T (any p l)
-some-getD p d [] i h t = absurd (omega arith)
-some-getD p d (x ∷ xs) zero h t = or-left (p x) (any p xs) t
-some-getD p d (x ∷ xs) (suc i) h t = or-right (p x) (any p xs) (some-getD p d xs i (omega arith) t)
 
 -- what a list of at most one thing holds
 pub in-consIf : (b : Bool) (x k : ℕ) → T (isIn (consIf b x []) k) → T b × (k ≡ x)

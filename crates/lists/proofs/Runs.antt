@@ -125,3 +125,9 @@ rank-place (x ∷ xs) b d e r t = go (or-cases (eqb e x) (isIn xs e) t) (λ q. r
         at-head false (le-ltb x e (omega (arith, eqb→eq e x q)))
         ∙ (ap (λ (l : List ℕ). getD (x ∷ xs) (length l) d) (none-below xs (suc x) e (omega (arith, eqb→eq e x q)) (r .1)) ∙ sym (eqb→eq e x q))
     go (inr q) f = at-head true (lt-ltb x e (rising-ge xs (suc x) e (r .1) q)) ∙ f q
+
+-- a function along a list, at a place of it
+pub getD-map-lt : {A B : Type 0} (f : A → B) (l : List A) (j : ℕ) (d : B) (e : A) → j < length l → getD (map f l) j d ≡ f (getD l j e)
+getD-map-lt f [] j d e h = absurd (omega arith)
+getD-map-lt f (x ∷ xs) zero d e h = refl
+getD-map-lt f (x ∷ xs) (suc j) d e h = getD-map-lt f xs j d e (omega arith)

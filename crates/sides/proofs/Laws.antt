@@ -8,7 +8,8 @@ use lib.IntN.{ℤ, pos}
 use lib.Dec.{T, eqb, eqb→eq, eqb-refl, ltb, ltb→lt, lt→ltb}
 use lib.ListN.{length, getD}
 use Rattle.lists.specs.Lists.{range, consIf, isIn}
-use Rattle.lists.proofs.Member.{T→eq, and-left, and-right, and-both, or-left, any-each, in-consIf, getD-some, some-getD}
+use Rattle.lists.proofs.Member.{T→eq, and-left, and-right, and-both, or-left, any-each, in-consIf}
+use Rattle.lists.proofs.Every.{any-at, at-any}
 use Rattle.lists.proofs.Runs.{at-along}
 use Rattle.lists.proofs.Computed.{Test8, every8, every8-at, upto, upto-at, below6}
 use Rattle.paper.specs.declared.Sizes.{Sizes}
@@ -19,7 +20,8 @@ use Rattle.paper.specs.Within.{Sized, Full, CubeIn}
 use Rattle.lists.proofs.Closure.{bool-same}
 use Rattle.paper.proofs.Numbers.{cube-place}
 use Rattle.paper.proofs.Visits.{in-lattice, lattice-in}
-use Rattle.lattice.proofs.Laws.{cornerStep, corner-no}
+use Rattle.lattice.specs.Steps.{cornerStep}
+use Rattle.lattice.proofs.Laws.{corner-no}
 use Rattle.sides.specs.Pattern.{bits, patternAt, sideNo, quarterAt, bitOf, crossedBy, faceCorners, faceCorner, airsBy, mixedBy, faceAt, neighbours, stepTo}
 
 same : Bool → Bool → Bool
@@ -85,7 +87,7 @@ module _ (z : Sizes) (s : List ℤ) (p : Place) where
 
   pub pattern-quarters : quarterAt s (sampleNo z p) (z .nx) (z .nx * z .ny) + 2 * quarterAt s (sampleNo z p + 1) (z .nx) (z .nx * z .ny)
       ≡ patternAt (lattice z s) p
-  unfolding patternAt quarterAt
+  unfolding patternAt quarterAt cornerStep
   pattern-quarters =
       let i = sampleNo z p in
       let r = z .nx in
@@ -150,7 +152,7 @@ pub step-by : (L : Lattice) (k j : ℕ) → T (isIn (steps L k) j) → (f : ℕ)
 unfolding steps stepOver stepTo neighbours faceAt faces
 step-by L k j t =
     let p = cubeAt (L .size) k in
-    let w = getD-some (λ f. isIn (stepOver L p f) j) (face [] false (place 0 0 0)) (faces p) (subst T (any-each (eqb j) (stepOver L p) (faces p)) t) in
+    let w = any-at (λ f. isIn (stepOver L p f) j) (faces p) (face [] false (place 0 0 0)) (subst T (any-each (eqb j) (stepOver L p) (faces p)) t) in
     let g = faceAt p (w .0) in
     let b = g .there && inLattice (L .size) (g .beyond) && mixedAt L p (g .corners) in
     let e = in-consIf b (cubeNo (L .size) (g .beyond)) j (w .2) in
@@ -167,7 +169,7 @@ by-step L k f h l =
     let g = faceAt p f in
     let b = g .there && inLattice (L .size) (g .beyond) && mixedAt L p (g .corners) in
     subst T (sym (any-each (eqb (stepTo L k f)) (stepOver L p) (faces p)))
-    (some-getD (λ g. isIn (stepOver L p g) (stepTo L k f)) (face [] false (place 0 0 0)) (faces p) f h
+    (at-any (λ g. isIn (stepOver L p g) (stepTo L k f)) (faces p) (face [] false (place 0 0 0)) f h
     (chosen b (cubeNo (L .size) (g .beyond)) (cubes (L .size)) l))
 
 -- ── the cubes beside a cube ──

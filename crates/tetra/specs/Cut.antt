@@ -1,0 +1,98 @@
+-- A cube's edges and triangles, by its pattern and its lowest sample. Assumes nothing.
+use mathlib.Core.Bool.{Bool, true, false, not}
+use mathlib.Core.List.{List, [], _∷_, map}
+use Prim.Native.Nat.{ℕ, _+_, _-_, _*_, _/_, _%_}
+use lib.Dec.{eqb}
+use lib.ListN.{length, getD}
+use Rattle.lists.specs.Lists.{range, keep, each}
+use Rattle.paper.specs.declared.Sizes.{Sizes}
+use Rattle.paper.specs.Tables.{Ends, Tet, Tri, ends, tet, tri, tets, rows, tetEdges, kinds, low, kindOf}
+use Rattle.paper.specs.Sheet.{corners3}
+use Rattle.lattice.specs.Steps.{cornerStep}
+use Rattle.sides.specs.Pattern.{bitOf}
+use Rattle.tetra.specs.declared.Triangle.{Triangle}
+
+-- a triangle as the definitions have it
+abbrev pub triOf : Triangle → Tri
+triOf g = tri (g .a) (g .b) (g .c)
+
+-- tetrahedron t, from 0, its corners a to d, and its edge j, 0 for e1
+unfoldable pub tetAt : ℕ → Tet
+tetAt t = getD tets t (tet 0 0 0 0)
+
+unfoldable pub tetCorner : ℕ → ℕ → ℕ
+tetCorner t j = getD (tetAt t .a ∷ tetAt t .b ∷ tetAt t .c ∷ tetAt t .d ∷ []) j 0
+
+unfoldable pub tetEnds : ℕ → ℕ → Ends
+tetEnds t j = getD (tetEdges (tetAt t)) j (ends 0 0)
+
+-- the row of tetrahedron t in a cube with pattern m
+unfoldable pub rowBy : ℕ → ℕ → ℕ
+rowBy m t = 8 * bitOf m (tetCorner t 0) + 4 * bitOf m (tetCorner t 1) + 2 * bitOf m (tetCorner t 2) + bitOf m (tetCorner t 3)
+
+-- how far an edge's number is from 7 × the number of the cube's lowest sample
+unfoldable pub edgeStep : Sizes → Ends → ℕ
+edgeStep z e = 7 * cornerStep z (low e) + kindOf e
+
+unfoldable pub tetStep : Sizes → ℕ → ℕ → ℕ
+tetStep z t j = edgeStep z (tetEnds t j)
+
+unfoldable pub tetSteps : Sizes → List ℕ
+tetSteps z = map (λ i. tetStep z (i / 6) (i % 6)) (range 0 36)
+
+-- how many triangles a row has, and their edges, three to a triangle: 0 for e1
+unfoldable pub rowCount : ℕ → ℕ
+rowCount r = length (getD rows r [])
+
+unfoldable pub rowEdge : ℕ → ℕ → ℕ
+rowEdge r j = getD (each corners3 (getD rows r [])) j 0 - 1
+
+-- the triangles of row r of tetrahedron t, by lattice edges, in a cube of whose lowest sample 7 × the number is base
+unfoldable pub rowTriangles : Sizes → ℕ → ℕ → ℕ → List Tri
+rowTriangles z base t r =
+    map (λ g. tri (base + tetStep z t (g .a - 1)) (base + tetStep z t (g .b - 1)) (base + tetStep z t (g .c - 1))) (getD rows r [])
+
+-- the triangles of a cube with pattern m
+unfoldable pub trianglesBy : Sizes → ℕ → ℕ → List Tri
+trianglesBy z base m = each (λ t. rowTriangles z base t (rowBy m t)) (range 0 6)
+
+-- the 19 edges of a cube's tetrahedra: the corner at the anchor, the kind, and the corners at the ends
+unfoldable pub locals : List (List ℕ)
+locals =
+    (0 ∷ 0 ∷ 0 ∷ 1 ∷ [])
+    ∷ (0 ∷ 1 ∷ 0 ∷ 2 ∷ [])
+    ∷ (0 ∷ 2 ∷ 0 ∷ 4 ∷ [])
+    ∷ (0 ∷ 3 ∷ 2 ∷ 4 ∷ [])
+    ∷ (0 ∷ 4 ∷ 1 ∷ 4 ∷ [])
+    ∷ (0 ∷ 5 ∷ 2 ∷ 1 ∷ [])
+    ∷ (0 ∷ 6 ∷ 3 ∷ 4 ∷ [])
+    ∷ (1 ∷ 1 ∷ 1 ∷ 3 ∷ [])
+    ∷ (1 ∷ 2 ∷ 1 ∷ 5 ∷ [])
+    ∷ (1 ∷ 3 ∷ 3 ∷ 5 ∷ [])
+    ∷ (2 ∷ 0 ∷ 2 ∷ 3 ∷ [])
+    ∷ (2 ∷ 2 ∷ 2 ∷ 6 ∷ [])
+    ∷ (2 ∷ 4 ∷ 3 ∷ 6 ∷ [])
+    ∷ (3 ∷ 2 ∷ 3 ∷ 7 ∷ [])
+    ∷ (4 ∷ 0 ∷ 4 ∷ 5 ∷ [])
+    ∷ (4 ∷ 1 ∷ 4 ∷ 6 ∷ [])
+    ∷ (4 ∷ 5 ∷ 6 ∷ 5 ∷ [])
+    ∷ (5 ∷ 1 ∷ 5 ∷ 7 ∷ [])
+    ∷ (6 ∷ 0 ∷ 6 ∷ 7 ∷ [])
+    ∷ []
+
+unfoldable pub localAt : ℕ → ℕ → ℕ
+localAt j k = getD (getD locals j []) k 0
+
+-- the ends of edge j are on different sides in a cube with pattern m
+unfoldable pub localSplit : ℕ → ℕ → Bool
+localSplit m j = not (eqb (bitOf m (localAt j 2)) (bitOf m (localAt j 3)))
+
+unfoldable pub localStep : Sizes → ℕ → ℕ
+localStep z j = 7 * cornerStep z (localAt j 0) + localAt j 1
+
+unfoldable pub localSteps : Sizes → List ℕ
+localSteps z = map (localStep z) (range 0 19)
+
+-- the side-changing edges of a cube with pattern m
+unfoldable pub edgesBy : Sizes → ℕ → ℕ → List ℕ
+edgesBy z base m = map (λ j. base + localStep z j) (keep (localSplit m) (range 0 19))

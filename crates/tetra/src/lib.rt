@@ -1,0 +1,225 @@
+// Six tetrahedra and sixteen rows: the edges and the triangles of a cube, by its pattern.
+use paper::Sizes;
+ghost use mathlib.Core.Path.{_≡_};
+ghost use mathlib.Core.List.{map};
+ghost use Prim.Native.Nat.{_+_, _*_, _≤_, _<_};
+ghost use lib.ListN.{length, getD};
+ghost use Rattle.paper.specs.Tables.{tri};
+ghost use Rattle.paper.specs.Within.{Sized};
+ghost use Rattle.lattice.specs.Steps.{cornerStep};
+ghost use Rattle.sides.specs.Pattern.{bitOf};
+ghost use Rattle.tetra.specs.Cut.{tetCorner, tetStep, tetSteps, rowBy, rowEdge, rowCount, rowTriangles, triOf, localAt, localSplit, localStep, localSteps};
+
+// A triangle by its lattice edges.
+pub struct Triangle {
+    pub a: usize,
+    pub b: usize,
+    pub c: usize,
+}
+
+// Corners a, b, c, d of each tetrahedron: R adds 1, T 2, F 4.
+const TETS: [[usize; 4]; 6] = [
+    [0, 2, 1, 4],
+    [3, 2, 4, 1],
+    [3, 2, 6, 4],
+    [3, 1, 4, 5],
+    [3, 4, 6, 5],
+    [3, 6, 7, 5],
+];
+
+// The edges e1 to e6 of each row's triangles, 0 past its last.
+const ROWS: [[usize; 6]; 16] = [
+    [0, 0, 0, 0, 0, 0],
+    [5, 6, 3, 0, 0, 0],
+    [2, 6, 4, 0, 0, 0],
+    [3, 5, 4, 3, 4, 2],
+    [1, 4, 5, 0, 0, 0],
+    [3, 1, 4, 3, 4, 6],
+    [1, 2, 6, 1, 6, 5],
+    [1, 2, 3, 0, 0, 0],
+    [1, 3, 2, 0, 0, 0],
+    [1, 5, 6, 1, 6, 2],
+    [1, 3, 6, 1, 6, 4],
+    [1, 5, 4, 0, 0, 0],
+    [3, 2, 4, 3, 4, 5],
+    [6, 2, 4, 0, 0, 0],
+    [5, 3, 6, 0, 0, 0],
+    [0, 0, 0, 0, 0, 0],
+];
+
+// How many triangles each row has.
+const COUNTS: [usize; 16] = [0, 1, 1, 2, 1, 2, 2, 1, 1, 2, 2, 1, 2, 1, 1, 0];
+
+// The corner at the anchor, and the kind, of edges e1 to e6 of each tetrahedron.
+const LOWS: [[usize; 6]; 6] = [
+    [0, 0, 0, 0, 0, 0],
+    [2, 0, 1, 0, 0, 0],
+    [2, 2, 0, 2, 0, 4],
+    [1, 0, 1, 0, 1, 4],
+    [0, 2, 1, 4, 4, 4],
+    [2, 3, 1, 6, 4, 5],
+];
+
+const KINDS: [[usize; 6]; 6] = [
+    [1, 0, 2, 5, 3, 4],
+    [0, 6, 1, 3, 5, 4],
+    [0, 4, 6, 2, 3, 1],
+    [1, 6, 3, 4, 2, 0],
+    [6, 4, 3, 1, 0, 5],
+    [4, 2, 3, 0, 5, 1],
+];
+
+// The 19 edges of a cube's tetrahedra: the corner at the anchor, the kind, and the corners at the ends.
+const LOCALS: [[usize; 4]; 19] = [
+    [0, 0, 0, 1],
+    [0, 1, 0, 2],
+    [0, 2, 0, 4],
+    [0, 3, 2, 4],
+    [0, 4, 1, 4],
+    [0, 5, 2, 1],
+    [0, 6, 3, 4],
+    [1, 1, 1, 3],
+    [1, 2, 1, 5],
+    [1, 3, 3, 5],
+    [2, 0, 2, 3],
+    [2, 2, 2, 6],
+    [2, 4, 3, 6],
+    [3, 2, 3, 7],
+    [4, 0, 4, 5],
+    [4, 1, 4, 6],
+    [4, 5, 6, 5],
+    [5, 1, 5, 7],
+    [6, 0, 6, 7],
+];
+
+fn tet_corner(t: usize, j: usize) -> usize
+    requires { ⌜ (t < 6) × (j < 4) ⌝ }
+    ensures { λ r. ⌜ (r ≡ tetCorner t j) × (r < 8) ⌝ }
+{
+    TETS[t][j]
+}
+
+// The side of corner j of tetrahedron t in a pattern.
+fn tet_bit(m: usize, t: usize, j: usize) -> usize
+    requires { ⌜ (t < 6) × (j < 4) ⌝ }
+    ensures { λ r. ⌜ (r ≡ bitOf m (tetCorner t j)) × (r ≤ 1) ⌝ }
+{
+    sides::bit(m, tet_corner(t, j))
+}
+
+// The row of tetrahedron t in a cube with pattern m.
+pub fn row(m: usize, t: usize) -> usize
+    requires { ⌜ t < 6 ⌝ }
+    ensures { λ r. ⌜ (r ≡ rowBy m t) × (r < 16) ⌝ }
+{
+    8 * tet_bit(m, t, 0) + 4 * tet_bit(m, t, 1) + 2 * tet_bit(m, t, 2) + tet_bit(m, t, 3)
+}
+
+// How many triangles a row has.
+pub fn row_count(r: usize) -> usize
+    requires { ⌜ r < 16 ⌝ }
+    ensures { λ n. ⌜ (n ≡ rowCount r) × (n ≤ 2) ⌝ }
+{
+    COUNTS[r]
+}
+
+// The edge of a row's triangles at j, three to a triangle: 0 for e1.
+fn row_edge(r: usize, j: usize) -> usize
+    requires { ⌜ (r < 16) × (j < 3 * rowCount r) ⌝ }
+    ensures { λ e. ⌜ (e ≡ rowEdge r j) × (e < 6) ⌝ }
+{
+    ROWS[r][j] - 1
+}
+
+// How far the sample at a corner is from the cube's lowest.
+fn corner_step(sizes: Sizes, c: usize) -> usize
+    requires { ⌜ Sized sizes × (c < 8) ⌝ }
+    ensures { λ r. ⌜ (r ≡ cornerStep sizes c) × (r ≤ 4161) ⌝ }
+{
+    let layer = sizes.nx * sizes.ny;
+    c % 2 + (sizes.nx * (c / 2 % 2) + layer * (c / 4))
+}
+
+// How far the number of edge j of tetrahedron t is from 7 × the number of the cube's lowest sample.
+fn tet_step(sizes: Sizes, t: usize, j: usize) -> usize
+    requires { ⌜ Sized sizes × (t < 6) × (j < 6) ⌝ }
+    ensures { λ r. ⌜ (r ≡ tetStep sizes t j) × (r ≤ 29133) ⌝ }
+{
+    7 * corner_step(sizes, LOWS[t][j]) + KINDS[t][j]
+}
+
+// The same of all, six to a tetrahedron.
+pub fn tet_steps(sizes: Sizes) -> [usize; 36]
+    requires { ⌜ Sized sizes ⌝ }
+    ensures { λ r. ⌜ r ≡ tetSteps sizes ⌝ }
+{
+    let mut steps = [0usize; 36];
+    let mut i = 0;
+    while i < 36 {
+        steps[i] = tet_step(sizes, i / 6, i % 6);
+        i += 1;
+    }
+    steps
+}
+
+// Triangle j of row r of tetrahedron t, in a cube of whose lowest sample 7 × the number is base.
+pub fn row_triangle(
+    sizes: Sizes,
+    steps: &[usize; 36],
+    base: usize,
+    t: usize,
+    r: usize,
+    j: usize,
+) -> Triangle
+    requires { ⌜ Sized sizes × (now steps ≡ tetSteps sizes) × (t < 6) × (r < 16) × (j < rowCount r) × (base ≤ 2000000) ⌝ }
+    ensures { λ g. ⌜ triOf g ≡ getD (rowTriangles sizes base t r) j (tri 0 0 0) ⌝ }
+{
+    let at = 6 * t;
+    let a = row_edge(r, 3 * j);
+    let b = row_edge(r, 3 * j + 1);
+    let c = row_edge(r, 3 * j + 2);
+    Triangle {
+        a: base + steps[at + a],
+        b: base + steps[at + b],
+        c: base + steps[at + c],
+    }
+}
+
+// The corner at the anchor of edge j of the 19, its kind, and the corners at its ends.
+fn local_at(j: usize, k: usize) -> usize
+    requires { ⌜ (j < 19) × (k < 4) ⌝ }
+    ensures { λ r. ⌜ (r ≡ localAt j k) × (r < 8) ⌝ }
+{
+    LOCALS[j][k]
+}
+
+// Whether the ends of edge j of the 19 are on different sides in a cube with pattern m.
+pub fn local_split(m: usize, j: usize) -> bool
+    requires { ⌜ j < 19 ⌝ }
+    ensures { λ r. ⌜ r ≡ localSplit m j ⌝ }
+{
+    let a = sides::bit(m, local_at(j, 2));
+    let b = sides::bit(m, local_at(j, 3));
+    a != b
+}
+
+fn local_step(sizes: Sizes, j: usize) -> usize
+    requires { ⌜ Sized sizes × (j < 19) ⌝ }
+    ensures { λ r. ⌜ (r ≡ localStep sizes j) × (r ≤ 29134) ⌝ }
+{
+    7 * corner_step(sizes, local_at(j, 0)) + local_at(j, 1)
+}
+
+// How far the numbers of the 19 edges are from 7 × the number of the cube's lowest sample.
+pub fn local_steps(sizes: Sizes) -> [usize; 19]
+    requires { ⌜ Sized sizes ⌝ }
+    ensures { λ r. ⌜ r ≡ localSteps sizes ⌝ }
+{
+    let mut steps = [0usize; 19];
+    let mut i = 0;
+    while i < 19 {
+        steps[i] = local_step(sizes, i);
+        i += 1;
+    }
+    steps
+}
