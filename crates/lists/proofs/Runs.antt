@@ -1,7 +1,7 @@
 -- What a loop over rising numbers makes: runs, those kept, the first, ranks. Assumes nothing.
 use mathlib.Core.Path.{_≡_, refl, sym, ap, subst, _∙_}
 use mathlib.Core.Logic.{_⊎_, inl, inr}
-use mathlib.Core.Bool.{Bool, true, false, cond}
+use mathlib.Core.Bool.{Bool, true, false, cond, _||_}
 use mathlib.Core.List.{List, [], _∷_, _++_, map, append-assoc, map-append}
 use Prim.Native.Nat.{ℕ, zero, suc, _+_, _≤_, _<_}
 use native.Mathlib.Omega.{arith}
@@ -10,7 +10,7 @@ use lib.Dec.{T, eqb, ltb, eqb→eq}
 use lib.ListN.{length, getD}
 use lib.Arith.{lt-of-le-ne}
 use borrow.Author.Tests.{lt-ltb, le-ltb, eqb-true, eqb-false}
-use Rattle.lists.specs.Lists.{range, consIf, keep, each, isIn, first, rank}
+use Rattle.lists.specs.Lists.{range, consIf, keep, any, each, isIn, first, rank}
 use Rattle.lists.proofs.Member.{or-cases}
 use Rattle.lists.proofs.Rising.{Rising, keep-rising}
 
@@ -131,3 +131,16 @@ pub getD-map-lt : {A B : Type 0} (f : A → B) (l : List A) (j : ℕ) (d : B) (e
 getD-map-lt f [] j d e h = absurd (omega arith)
 getD-map-lt f (x ∷ xs) zero d e h = refl
 getD-map-lt f (x ∷ xs) (suc j) d e h = getD-map-lt f xs j d e (omega arith)
+
+-- something passes where the first that passes is one of the run
+pub any-first : (p : ℕ → Bool) (n : ℕ) → any p (range 0 n) ≡ ltb (first p n (range 0 n)) n
+any-first p n = go 0 n (omega arith)
+  where
+    go : (i m : ℕ) → i + m ≡ n → any p (range i m) ≡ ltb (first p n (range i m)) n
+    go i zero e = sym (le-ltb n n (omega arith))
+    go i (suc m) e = by (p i) (go (suc i) m (omega arith))
+      where
+        by : (b : Bool) → any p (range (suc i) m) ≡ ltb (first p n (range (suc i) m)) n
+            → (b || any p (range (suc i) m)) ≡ ltb (cond b i (first p n (range (suc i) m))) n
+        by true q = sym (lt-ltb i n (omega arith))
+        by false q = q

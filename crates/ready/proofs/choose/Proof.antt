@@ -1,0 +1,46 @@
+-- By the way the start is given. Assumes nothing.
+use borrow.Author.Needs.{needs}
+use mathlib.Core.Path.{_≡_, sym, subst}
+use denote.Ref.{now}
+use Rattle.paper.specs.Lattice.{lattice}
+use Rattle.paper.specs.declared.Start.{Start}
+use Rattle.ready.specs.Ready.{Chosen, NamedChosen, LowestChosen}
+use Rattle.ready.proofs.choose.Statement.{statement}
+use Rattle.ready.proofs.choose.Tie as tie
+
+enum-told : tie.Need-enum-told
+enum-told c = search needs
+
+lowest-cube-requires : tie.Need-lowest-cube-requires
+lowest-cube-requires c κs = search needs
+
+enum-known-start : tie.Need-enum-known-start
+enum-known-start c = search needs
+
+named-cube-requires : tie.Need-named-cube-requires
+named-cube-requires c κs = search needs
+
+returns : tie.Need-returns
+returns c =
+    let L = lattice (c .before .before .before .args .sizes) (now (c .before .before .before .args .samples)) in
+    let w = c .lowest-cube .ensures in
+    subst (λ (s : Start). Chosen L s (c .lowest-cube .result)) (sym (c .before .enum-told .given .1))
+    (record { answer = w .answer; is = w .is; below = w .below })
+
+returns-2 : tie.Need-returns-2
+returns-2 c =
+    let L = lattice (c .before .before .before .before .args .sizes) (now (c .before .before .before .before .args .samples)) in
+    let w = c .named-cube .ensures in
+    subst (λ (s : Start). Chosen L s (c .named-cube .result)) (sym (c .before .before .start .given .1))
+    (record { answer = w .answer; is = w .is; below = w .below })
+
+pub choose-spec : {M : Type 1} → statement M
+choose-spec =
+    tie.close
+    (tie.spec
+    enum-told
+    lowest-cube-requires
+    enum-known-start
+    named-cube-requires
+    returns
+    returns-2)

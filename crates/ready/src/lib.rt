@@ -1,0 +1,139 @@
+// Tests 1 to 5 on the samples, which building and checking share, and the start cube.
+use paper::Place;
+use paper::Sizes;
+use paper::Start;
+ghost use mathlib.Core.Path.{_≡_};
+ghost use Prim.Native.Nat.{_≤_, _<_};
+ghost use lib.ListN.{length};
+ghost use Rattle.paper.specs.Lattice.{lattice, axis, axes, cubes, inLattice};
+ghost use Rattle.paper.specs.Build.{roomy};
+ghost use Rattle.paper.specs.Within.{Sized, Full};
+ghost use Rattle.ready.specs.Ready.{Readied, Chosen, NamedChosen, LowestChosen};
+
+// 0 or the number of a refusal, and the start cube where it is 0.
+pub struct Ready {
+    pub number: usize,
+    pub cube: usize,
+}
+
+fn axis_passes(n: usize) -> bool
+    ensures { λ r. ⌜ r ≡ axis n ⌝ }
+{
+    if n < 2 {
+        return false;
+    }
+    n <= 64
+}
+
+// Test 1.
+pub fn axes_pass(sizes: Sizes) -> bool
+    ensures { λ r. ⌜ r ≡ axes sizes ⌝ }
+{
+    let x = axis_passes(sizes.nx);
+    if !x {
+        return false;
+    }
+    let y = axis_passes(sizes.ny);
+    if !y {
+        return false;
+    }
+    axis_passes(sizes.nz)
+}
+
+// Test 3.
+fn has_room(sizes: Sizes, words: usize, waiting: usize, slots: usize) -> bool
+    requires { ⌜ Sized sizes ⌝ }
+    ensures { λ r. ⌜ r ≡ roomy sizes words waiting slots ⌝ }
+{
+    let n = lattice::cube_count(sizes);
+    if words < n {
+        return false;
+    }
+    if waiting < n {
+        return false;
+    }
+    7 * lattice::sample_count(sizes) <= slots
+}
+
+// Test 4 of a named cube.
+fn is_cube(sizes: Sizes, p: Place) -> bool
+    requires { ⌜ Sized sizes ⌝ }
+    ensures { λ r. ⌜ r ≡ inLattice sizes p ⌝ }
+{
+    if sizes.nx - 1 <= p.x {
+        return false;
+    }
+    if sizes.ny - 1 <= p.y {
+        return false;
+    }
+    p.z < sizes.nz - 1
+}
+
+// Tests 4 and 5 of a named cube.
+fn named_cube(samples: &[i16], sizes: Sizes, p: Place) -> Ready
+    requires { ⌜ Full (lattice sizes (now samples)) ⌝ }
+    ensures { λ r. ⌜ NamedChosen (lattice sizes (now (samples .entry))) p r ⌝ }
+{
+    let there = is_cube(sizes, p);
+    if !there {
+        return Ready { number: 4, cube: 0 };
+    }
+    let crossed = sides::crossed_at(samples, sizes, p);
+    if !crossed {
+        return Ready { number: 5, cube: 0 };
+    }
+    Ready {
+        number: 0,
+        cube: lattice::cube_no(sizes, p),
+    }
+}
+
+// Test 5 where no cube is named.
+fn lowest_cube(samples: &[i16], sizes: Sizes) -> Ready
+    requires { ⌜ Full (lattice sizes (now samples)) ⌝ }
+    ensures { λ r. ⌜ LowestChosen (lattice sizes (now (samples .entry))) r ⌝ }
+{
+    let k = sides::lowest_crossed(samples, sizes);
+    let n = lattice::cube_count(sizes);
+    if n <= k {
+        return Ready { number: 5, cube: 0 };
+    }
+    Ready { number: 0, cube: k }
+}
+
+// Tests 4 and 5.
+fn choose(samples: &[i16], sizes: Sizes, start: Start) -> Ready
+    requires { ⌜ Full (lattice sizes (now samples)) ⌝ }
+    ensures { λ r. ⌜ Chosen (lattice sizes (now (samples .entry))) start r ⌝ }
+{
+    match start {
+        Start::Unnamed => lowest_cube(samples, sizes),
+        Start::Cube(p) => named_cube(samples, sizes, p),
+    }
+}
+
+// Tests 1 to 5; words, waiting and slots are the lengths of the work slices.
+pub fn begin(
+    samples: &[i16],
+    sizes: Sizes,
+    start: Start,
+    words: usize,
+    waiting: usize,
+    slots: usize,
+) -> Ready
+    ensures { λ r. ⌜ Readied (lattice sizes (now (samples .entry))) start words waiting slots r ⌝ }
+{
+    let shaped = axes_pass(sizes);
+    if !shaped {
+        return Ready { number: 1, cube: 0 };
+    }
+    let n = lattice::sample_count(sizes);
+    if samples.len() != n {
+        return Ready { number: 2, cube: 0 };
+    }
+    let roomy = has_room(sizes, words, waiting, slots);
+    if !roomy {
+        return Ready { number: 3, cube: 0 };
+    }
+    choose(samples, sizes, start)
+}
