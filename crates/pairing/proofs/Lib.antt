@@ -1,0 +1,8 @@
+-- Demand 3, proved.
+pub mod Count
+pub mod Table
+pub mod Edges
+pub mod Sides
+pub mod Whole
+pub mod Outer
+pub mod Sheets

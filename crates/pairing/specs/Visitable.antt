@@ -1,0 +1,48 @@
+-- Demand 3 of any cubes that may be visited and any sides: what document 01 says of the cubes of a lattice and of its samples. Assumes
+-- nothing.
+use mathlib.Core.Bool.{Bool, true, false, not, _&&_, _||_}
+use mathlib.Core.List.{List, [], _∷_, _++_, map}
+use Prim.Native.Nat.{ℕ, _-_, _/_, _%_, min}
+use lib.Dec.{eqb}
+use lib.ListN.{getD}
+use Rattle.lists.specs.Lists.{all, each}
+use Rattle.paper.specs.declared.Sizes.{Sizes}
+use Rattle.paper.specs.declared.Place.{Place}
+use Rattle.paper.specs.Lattice.{place, corner, sampleAt, RBN, LTN, LBF}
+use Rattle.paper.specs.Tables.{Tri, tets, rows}
+use Rattle.paper.specs.Sheet.{rowOf, triEdges}
+use Rattle.pairing.specs.Pairing.{edgeEnds}
+
+-- the triangles of the cube at p, by lattice edges, where `air` has the side of each sample
+unfoldable pub trianglesAt : Sizes → (Place → Bool) → Place → List Tri
+trianglesAt z air p =
+    each
+    (λ t.
+    map (triEdges z p t)
+    (getD rows (rowOf (air (corner p (t .a))) (air (corner p (t .b))) (air (corner p (t .c))) (air (corner p (t .d)))) [])) tets
+
+-- the least of the anchors of two lattice edges: the low corner of the box that they span
+unfoldable pub meet : Sizes → ℕ → ℕ → Place
+meet z e f =
+    let p = sampleAt z (e / 7) in
+    let q = sampleAt z (f / 7) in
+    place (min (p .x) (q .x)) (min (p .y) (q .y)) (min (p .z) (q .z))
+
+unfoldable pub samePlace : Place → Place → Bool
+samePlace p q = eqb (p .x) (q .x) && eqb (p .y) (q .y) && eqb (p .z) (q .z)
+
+-- the cubes on both sides of the face with the low corner q may be visited; c is the corner of a cube along the axis across the face
+unfoldable pub shared : (Place → Bool) → ℕ → Place → Bool
+shared may c q =
+    let p = place (q .x - c % 2) (q .y - c / 2 % 2) (q .z - c / 4) in
+    may q && (samePlace (corner p c) q && may p)
+
+-- the lattice edges of two vertices lie in one face of a cube, and that face is not shared by two cubes that may be visited
+unfoldable pub inUnshared : (Place → Bool) → Place → List Place → Bool
+inUnshared may q ps =
+    (all (λ p. eqb (p .x) (q .x)) ps && not (shared may RBN q))
+    || (all (λ p. eqb (p .y) (q .y)) ps && not (shared may LTN q))
+    || (all (λ p. eqb (p .z) (q .z)) ps && not (shared may LBF q))
+
+unfoldable pub unshared : Sizes → (Place → Bool) → ℕ → ℕ → Bool
+unshared z may e f = inUnshared may (meet z e f) (edgeEnds z e ++ edgeEnds z f)
