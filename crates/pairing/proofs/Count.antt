@@ -1,16 +1,17 @@
 -- Counting by a test, sums over lists, and what distinct members contribute. Assumes nothing.
 use mathlib.Core.Path.{_≡_, refl, sym, ap, _∙_, subst}
-use mathlib.Core.Bool.{Bool, true, false, cond, not, _&&_, and-assoc}
-use mathlib.Core.List.{List, [], _∷_, _++_, map, List·Memᴰ as In, List·Memᴰ·head as here, List·Memᴰ·tail as there, Memᴰ·cast}
+use mathlib.Core.Bool.{Bool, true, false, cond, _&&_, and-assoc}
+use mathlib.Core.List.{List, [], _∷_, _++_, map, List·Memᴰ as In, List·Memᴰ·head as here, List·Memᴰ·tail as there, Memᴰ·cast, Memᴰ·append-left, Memᴰ·append-right, List·Memᴰ·append-cases}
 use mathlib.Core.Logic.{_⊎_, inl, inr}
 use Prim.Native.Nat.{ℕ, zero, suc, _+_, _≤_, _<_}
 use native.Mathlib.Omega.{arith}
 use lib.Dec.{T, eqb, eqb→eq, eqb-refl}
 use lib.ListN.{length, getD, length-append}
 use Rattle.lists.specs.Lists.{range, consIf, keep, any, all, each, isIn}
-use Rattle.lists.proofs.Member.{T→eq, eq→T, and-both, and-left, and-right}
-use Rattle.lists.proofs.Runs.{keep-append}
-use Rattle.pairing.specs.Pairing.{count}
+use Rattle.lists.proofs.Member.{T→eq, eq→T, or-cases, or-left, or-right, and-both, and-left, and-right, range-in}
+use Rattle.lists.proofs.Rising.{Rising}
+use Rattle.lists.proofs.Runs.{keep-append, each-append}
+use Rattle.pairing.specs.Pairing.{count, Arrow, isArrow}
 
 pub T→false : (b : Bool) → (T b → ⊥) → b ≡ false
 T→false true h = absurd (h tt)
@@ -18,6 +19,14 @@ T→false false h = refl
 
 pub eqb-of : {a b : ℕ} → a ≡ b → T (eqb a b)
 eqb-of {a} e = subst (λ (k : ℕ). T (eqb a k)) e (eqb-refl a)
+
+pub is-arrow : (m n : ℕ) (d : Arrow) → T (isArrow m n d) → (d .from ≡ m) × (d .to ≡ n)
+unfolding isArrow
+is-arrow m n d t = (eqb→eq (d .from) m (and-left (eqb (d .from) m) (eqb (d .to) n) t), eqb→eq (d .to) n (and-right (eqb (d .from) m) (eqb (d .to) n) t))
+
+pub arrow-is : {m n : ℕ} {d : Arrow} → d .from ≡ m → d .to ≡ n → T (isArrow m n d)
+unfolding isArrow
+arrow-is {m} {n} {d} a b = and-both (eqb (d .from) m) (eqb (d .to) n) (eqb-of a) (eqb-of b)
 
 -- one of a list of tests that all pass
 pub holds : (l : List Bool) → T (all (λ b. b) l) → (i : ℕ) → T (getD l i true)
@@ -39,12 +48,6 @@ module _ {A : Type 0} where
   all-getD p (x ∷ l) zero d t h = and-left (p x) (all p l) t
   all-getD p (x ∷ l) (suc i) d t h = all-getD p l i d (and-right (p x) (all p l) t) h
 
-  pub all-both : (p q : A → Bool) (l : List A) → T (all p l) → T (all q l) → T (all (λ x. p x && q x) l)
-  all-both p q [] s t = tt
-  all-both p q (x ∷ l) s t =
-      and-both (p x && q x) (all (λ y. p y && q y) l) (and-both (p x) (q x) (and-left (p x) (all p l) s) (and-left (q x) (all q l) t))
-      (all-both p q l (and-right (p x) (all p l) s) (and-right (q x) (all q l) t))
-
   -- counts
   length-consIf : (b : Bool) (x : A) (l : List A) → length (consIf b x l) ≡ cond b (suc (length l)) (length l)
   length-consIf true x l = refl
@@ -56,22 +59,24 @@ module _ {A : Type 0} where
   pub count-append : (p : A → Bool) (l m : List A) → count p (l ++ m) ≡ count p l + count p m
   count-append p l m = ap length (keep-append p l m) ∙ length-append (keep p l) (keep p m)
 
-  -- something counted, beside a test that all pass
-  pub pick : (p h : A → Bool) (l : List A) → T (all h l) → (count p l ≡ 0 → ⊥) → (a : A) × T (p a) × T (h a)
-  pick p h [] t n = absurd (n refl)
-  pick p h (x ∷ l) t n = go (p x) refl (pick p h l (and-right (h x) (all h l) t))
+  -- something that is counted
+  pub pick : (p : A → Bool) (l : List A) → (count p l ≡ 0 → ⊥) → (a : A) × In a l × T (p a)
+  pick p [] n = absurd (n refl)
+  pick p (x ∷ l) n = go (p x) refl (pick p l)
     where
-      go : (b : Bool) → p x ≡ b → ((count p l ≡ 0 → ⊥) → (a : A) × T (p a) × T (h a)) → (a : A) × T (p a) × T (h a)
-      go true e r = (x, eq→T e, and-left (h x) (all h l) t)
-      go false e r = r (λ z. n (count-step p x l ∙ ap (λ (b : Bool). cond b (suc (count p l)) (count p l)) e ∙ z))
+      go : (b : Bool) → p x ≡ b → ((count p l ≡ 0 → ⊥) → (a : A) × In a l × T (p a)) → (a : A) × In a (x ∷ l) × T (p a)
+      go true e r = (x, here refl, eq→T e)
+      go false e r =
+          let m : (a : A) × In a l × T (p a) = r (λ z. n (count-step p x l ∙ ap (λ (b : Bool). cond b (suc (count p l)) (count p l)) e ∙ z)) in
+          (m .0, there (m .1), m .2)
 
-  -- tests that agree wherever a third passes
-  pub count-same : (p q h : A → Bool) (l : List A) → T (all h l) → ((a : A) → T (h a) → p a ≡ q a) → count p l ≡ count q l
-  count-same p q h [] t f = refl
-  count-same p q h (x ∷ l) t f =
+  -- tests that agree on the list
+  pub count-same : (p q : A → Bool) (l : List A) → ((a : A) → In a l → p a ≡ q a) → count p l ≡ count q l
+  count-same p q [] f = refl
+  count-same p q (x ∷ l) f =
       count-step p x l
-      ∙ ap (λ (b : Bool). cond b (suc (count p l)) (count p l)) (f x (and-left (h x) (all h l) t))
-      ∙ ap (λ (n : ℕ). cond (q x) (suc n) n) (count-same p q h l (and-right (h x) (all h l) t) f)
+      ∙ ap (λ (b : Bool). cond b (suc (count p l)) (count p l)) (f x (here refl))
+      ∙ ap (λ (n : ℕ). cond (q x) (suc n) n) (count-same p q l (λ a i. f a (there i)))
       ∙ sym (count-step q x l)
 
   pub count-keep : (p q : A → Bool) (l : List A) → ((a : A) → In a l → T (p a) → T (q a)) → count p (keep q l) ≡ count p l
@@ -86,13 +91,6 @@ module _ {A : Type 0} where
   abbrev pub sum : (A → ℕ) → List A → ℕ
   sum f [] = 0
   sum f (x ∷ l) = f x + sum f l
-
-  pub sum-same : (f g : A → ℕ) (l : List A) → ((a : A) → In a l → f a ≡ g a) → sum f l ≡ sum g l
-  sum-same f g [] h = refl
-  sum-same f g (x ∷ l) h =
-      let e : f x ≡ g x = h x (here refl) in
-      let r : sum f l ≡ sum g l = sum-same f g l (λ a i. h a (there i)) in
-      omega arith
 
   pub sum-none : (f : A → ℕ) (l : List A) → ((a : A) → In a l → (f a ≡ 0 → ⊥) → ⊥) → sum f l ≡ 0
   sum-none f [] h = refl
@@ -129,7 +127,59 @@ module _ {A : Type 0} where
       go zero e r = omega arith
       go (suc k) e r = absurd (n (Memᴰ·cast (h x (here refl) (λ z. omega arith)) i))
 
+  pub nth-in : (l : List A) (i : ℕ) (d : A) → i < length l → In (getD l i d) l
+  nth-in [] i d h = absurd (omega arith)
+  nth-in (x ∷ l) zero d h = here refl
+  nth-in (x ∷ l) (suc i) d h = there (nth-in l i d (omega arith))
+
+  pub keep-in : (p : A → Bool) (l : List A) {a : A} → In a (keep p l) → In a l × T (p a)
+  keep-in p [] i = elim i [ ]
+  keep-in p (x ∷ l) {a} i = go (p x) refl i (λ j. keep-in p l j)
+    where
+      go : (b : Bool) → p x ≡ b → In a (consIf b x (keep p l)) → (In a (keep p l) → In a l × T (p a)) → In a (x ∷ l) × T (p a)
+      go true q (here e) r = (here e, eq→T (ap p e ∙ q))
+      go true q (there j) r = let m : In a l × T (p a) = r j in (there (m .0), m .1)
+      go false q j r = let m : In a l × T (p a) = r j in (there (m .0), m .1)
+
+  pub in-keep : (p : A → Bool) {l : List A} {a : A} → In a l → T (p a) → In a (keep p l)
+  in-keep p {l = x ∷ l} {a = a} (here e) t = subst (λ (b : Bool). In a (consIf b x (keep p l))) (sym (T→eq (p x) (subst (λ k. T (p k)) e t))) (here e)
+  in-keep p {l = x ∷ l} {a = a} (there i) t = go (p x) (in-keep p i t)
+    where
+      go : (b : Bool) → In a (keep p l) → In a (consIf b x (keep p l))
+      go true j = there j
+      go false j = j
+
+  pub any-at : (p : A → Bool) {l : List A} {a : A} → In a l → T (p a) → T (any p l)
+  any-at p {l = x ∷ l} (here e) t = or-left (p x) (any p l) (subst (λ k. T (p k)) e t)
+  any-at p {l = x ∷ l} (there i) t = or-right (p x) (any p l) (any-at p i t)
+
+  pub at-any : (p : A → Bool) (l : List A) → T (any p l) → (a : A) × In a l × T (p a)
+  at-any p [] t = absurd t
+  at-any p (x ∷ l) t =
+      elim (or-cases (p x) (any p l) t) [
+        | inl a ↦ (x, here refl, a)
+        | inr r ↦ (let m : (a : A) × In a l × T (p a) = at-any p l r in (m .0, there (m .1), m .2))
+      ]
+
+pub list-in : {k : ℕ} {l : List ℕ} → In k l → T (isIn l k)
+list-in {k} i = any-at (eqb k) i (eqb-refl k)
+
+pub in-list : (k : ℕ) (l : List ℕ) → T (isIn l k) → In k l
+in-list k l t = let m = at-any (eqb k) l t in Memᴰ·cast (eqb→eq k (m .0) (m .2)) (m .1)
+
 module _ {A B : Type 0} where
+  pub each-in : (f : A → List B) (l : List A) {b : B} → In b (each f l) → (a : A) × In a l × In b (f a)
+  each-in f [] i = elim i [ ]
+  each-in f (x ∷ l) {b} i = go (List·Memᴰ·append-cases (f x) i) (λ j. each-in f l j)
+    where
+      go : In b (f x) ⊎ In b (each f l) → (In b (each f l) → (a : A) × In a l × In b (f a)) → (a : A) × In a (x ∷ l) × In b (f a)
+      go (inl j) r = (x, here refl, j)
+      go (inr j) r = let m : (a : A) × In a l × In b (f a) = r j in (m .0, there (m .1), m .2)
+
+  pub in-each : (f : A → List B) {l : List A} {a : A} {b : B} → In a l → In b (f a) → In b (each f l)
+  in-each f {l = x ∷ l} {b = b} (here e) j = Memᴰ·append-left (each f l) (subst (λ k. In b (f k)) e j)
+  in-each f {l = x ∷ l} (there i) j = Memᴰ·append-right (f x) (in-each f i j)
+
   pub each-map : {C : Type 0} (f : B → List C) (g : A → B) (l : List A) → each f (map g l) ≡ each (λ a. f (g a)) l
   each-map f g [] = refl
   each-map f g (x ∷ l) = ap (λ m. f (g x) ++ m) (each-map f g l)
@@ -176,10 +226,43 @@ module _ {A B : Type 0} where
       back r = Memᴰ·cast (j x (r .0) (here refl) (there (r .1)) (r .2)) (r .1)
 
 module _ {A B C : Type 0} where
+  pub map-map : (f : B → C) (g : A → B) (l : List A) → map f (map g l) ≡ map (λ a. f (g a)) l
+  map-map f g [] = refl
+  map-map f g (x ∷ l) = ap (λ r. f (g x) ∷ r) (map-map f g l)
+
   pub map-each : (f : B → C) (g : A → List B) (l : List A) → map f (each g l) ≡ each (λ a. map f (g a)) l
   map-each f g [] = refl
   map-each f g (x ∷ l) = map-append f (g x) (each g l) ∙ ap (λ m. map f (g x) ++ m) (map-each f g l)
 
   pub each-each : (f : B → List C) (g : A → List B) (l : List A) → each f (each g l) ≡ each (λ a. each f (g a)) l
   each-each f g [] = refl
-  each-each f g (x ∷ l) = Rattle.lists.proofs.Runs.each-append f (g x) (each g l) ∙ ap (λ m. each f (g x) ++ m) (each-each f g l)
+  each-each f g (x ∷ l) = each-append f (g x) (each g l) ∙ ap (λ m. each f (g x) ++ m) (each-each f g l)
+
+-- numbers that rise, and what is counted of numbers without a repeat
+pub rising-unique : (b : ℕ) (l : List ℕ) → Rising b l → Unique l
+rising-unique b [] r = none
+rising-unique b (x ∷ l) r = more (λ (i : In x l). omega (arith, bound (suc x) l x (r .1) i)) (rising-unique (suc x) l (r .1))
+  where
+    bound : (b : ℕ) (l : List ℕ) (k : ℕ) → Rising b l → In k l → b ≤ k
+    bound b (x ∷ l) k r (here e) = omega (arith, r .0)
+    bound b (x ∷ l) k r (there i) = omega (arith, r .0, bound (suc x) l k (r .1) i)
+
+pub range-unique : (i n : ℕ) → Unique (range i n)
+range-unique i zero = none
+range-unique i (suc n) = more (λ (m : In i (range (suc i) n)). omega (arith, range-in (suc i) n i (list-in m))) (range-unique (suc i) n)
+
+pub count-unique : {e : ℕ} {l : List ℕ} → Unique l → In e l → count (eqb e) l ≡ 1
+count-unique {e} {l = x ∷ l} (more n u) (here q) =
+    count-step (eqb e) x l
+    ∙ ap (λ (b : Bool). cond b (suc (count (eqb e) l)) (count (eqb e) l)) (T→eq (eqb e x) (eqb-of q))
+    ∙ ap suc (none-in (count (eqb e) l) refl)
+  where
+    none-in : (k : ℕ) → count (eqb e) l ≡ k → count (eqb e) l ≡ 0
+    none-in zero h = h
+    none-in (suc k) h =
+        let m = pick (eqb e) l (λ z. omega arith) in
+        absurd (n (Memᴰ·cast (sym q ∙ eqb→eq e (m .0) (m .2)) (m .1)))
+count-unique {e} {l = x ∷ l} (more n u) (there i) =
+    count-step (eqb e) x l
+    ∙ ap (λ (b : Bool). cond b (suc (count (eqb e) l)) (count (eqb e) l)) (T→false (eqb e x) (λ t. n (Memᴰ·cast (sym (eqb→eq e x t)) i)))
+    ∙ count-unique u i

@@ -1,35 +1,27 @@
 -- Lattice edges by a cube and a code: their numbers, what tells them apart, and where their ends stand. Assumes nothing.
-use mathlib.Core.Path.{_≡_, refl, sym, ap, _∙_, subst}
-use mathlib.Core.Bool.{Bool, true, false, not, cond, _&&_, _||_}
+use mathlib.Core.Path.{_≡_, refl, sym, ap, _∙_}
+use mathlib.Core.Bool.{Bool, true, false, cond}
 use mathlib.Core.List.{List, [], _∷_, _++_, map}
-use mathlib.Core.Logic.{_⊎_, inl, inr}
 use Prim.Native.Nat.{ℕ, zero, suc, _+_, _-_, _*_, _/_, _%_, _≤_, _<_, min}
 use native.Mathlib.Omega.{arith}
-use lib.Dec.{T, eqb, ltb, eqb→eq, ltb→lt}
-use lib.ListN.{length, getD}
-use Rattle.lists.specs.Lists.{range, any, all, each, first}
-use Rattle.lists.proofs.Member.{T→eq, or-cases, and-both, and-left, and-right, and3}
+use lib.ListN.{getD}
+use Rattle.lists.specs.Lists.{range, each, first}
 use Rattle.paper.specs.declared.Sizes.{Sizes}
 use Rattle.paper.specs.declared.Place.{Place}
 use Rattle.paper.specs.Lattice.{place, corner, sampleNo, sampleAt}
-use Rattle.paper.specs.Within.{SampleIn, CubeIn}
+use Rattle.paper.specs.Within.{SampleIn}
 use Rattle.paper.specs.Tables.{Ends, Tet, Tri, ends, tri, tets, rows, tetEdges, kinds, low, joins, kindOf}
 use Rattle.paper.specs.Sheet.{edgeNo, tetEdge, triEdges, rowOf}
-use Rattle.paper.proofs.Numbers.{sample-place, corner-inside}
-use Rattle.pairing.specs.Pairing.{Arrow, arrow, around, edgeEnds}
+use Rattle.paper.proofs.Numbers.{sample-place}
+use Rattle.pairing.specs.Pairing.{around}
 use Rattle.pairing.specs.Visitable.{trianglesAt}
-use Rattle.pairing.proofs.Count.{each-map, map-each}
-use Rattle.pairing.proofs.Table.{code, codeAt, codeTri, trisIn, arrowsIn, span, sideOf, Moved, Shape, Neat}
+use Rattle.pairing.proofs.Count.{map-each}
+use Rattle.pairing.proofs.Names.{named, namedArrow, around-named}
+use Rattle.pairing.proofs.Table.{code, codeAt, codeTri, trisIn, arrowsIn, Moved, Shape}
 
 -- the number of the edge that has the code u from the corner at p
 unfoldable pub number : Sizes → Place → ℕ → ℕ
 number z p u = 7 * sampleNo z (corner p (u / 8)) + u % 8
-
-unfoldable pub numTri : Sizes → Place → Tri → Tri
-numTri z p t = tri (number z p (t .a)) (number z p (t .b)) (number z p (t .c))
-
-unfoldable pub numArrow : Sizes → Place → Arrow → Arrow
-numArrow z p d = arrow (number z p (d .from)) (number z p (d .to))
 
 -- ── a cube's triangles by codes ──
 
@@ -54,37 +46,32 @@ edge-number z p e =
     λ i. 7 * sampleNo z (corner p (a i)) + b i
 
 module _ (z : Sizes) (air : Place → Bool) (p : Place) where
-  tri-number : (t : Tet) (r : Tri) → triEdges z p t r ≡ numTri z p (codeTri t r)
-  unfolding triEdges tetEdge numTri codeTri codeAt
+  tri-number : (t : Tet) (r : Tri) → triEdges z p t r ≡ named (number z p) (codeTri t r)
+  unfolding triEdges tetEdge named codeTri codeAt
   tri-number t r =
       λ i. tri (edge-number z p (getD (tetEdges t) (r .a - 1) (ends 0 0)) i) (edge-number z p (getD (tetEdges t) (r .b - 1) (ends 0 0)) i)
       (edge-number z p (getD (tetEdges t) (r .c - 1) (ends 0 0)) i)
 
-  tris-number : (t : Tet) (l : List Tri) → map (triEdges z p t) l ≡ map (numTri z p) (map (codeTri t) l)
+  tris-number : (t : Tet) (l : List Tri) → map (triEdges z p t) l ≡ map (named (number z p)) (map (codeTri t) l)
   tris-number t [] = refl
   tris-number t (r ∷ l) = λ i. tri-number t r i ∷ tris-number t l i
 
-  triangles-are : trianglesAt z air p ≡ map (numTri z p) (trisIn (λ c. air (corner p c)))
+  triangles-are : trianglesAt z air p ≡ map (named (number z p)) (trisIn (λ c. air (corner p c)))
   unfolding trianglesAt trisIn
   triangles-are =
       go tets
-      ∙ sym (map-each (numTri z p) (λ t. map (codeTri t) (getD rows (rowOf (air (corner p (t .a))) (air (corner p (t .b))) (air (corner p (t .c))) (air (corner p (t .d)))) [])) tets)
+      ∙ sym (map-each (named (number z p)) (λ t. map (codeTri t) (getD rows (rowOf (air (corner p (t .a))) (air (corner p (t .b))) (air (corner p (t .c))) (air (corner p (t .d)))) [])) tets)
     where
       at : Tet → List Tri
       at t = getD rows (rowOf (air (corner p (t .a))) (air (corner p (t .b))) (air (corner p (t .c))) (air (corner p (t .d)))) []
 
-      go : (l : List Tet) → each (λ t. map (triEdges z p t) (at t)) l ≡ each (λ t. map (numTri z p) (map (codeTri t) (at t))) l
+      go : (l : List Tet) → each (λ t. map (triEdges z p t) (at t)) l ≡ each (λ t. map (named (number z p)) (map (codeTri t) (at t))) l
       go [] = refl
       go (t ∷ l) = λ i. tris-number t (at t) i ++ go l i
 
-  around-number : (l : List Tri) → each around (map (numTri z p) l) ≡ map (numArrow z p) (each around l)
-  unfolding around numTri numArrow
-  around-number [] = refl
-  around-number (t ∷ l) = ap (λ r. numArrow z p (arrow (t .a) (t .b)) ∷ numArrow z p (arrow (t .b) (t .c)) ∷ numArrow z p (arrow (t .c) (t .a)) ∷ r) (around-number l)
-
-  pub arrows-are : each around (trianglesAt z air p) ≡ map (numArrow z p) (arrowsIn (λ c. air (corner p c)))
+  pub arrows-are : each around (trianglesAt z air p) ≡ map (namedArrow (number z p)) (arrowsIn (λ c. air (corner p c)))
   unfolding arrowsIn
-  arrows-are = ap (each around) triangles-are ∙ around-number (trisIn (λ c. air (corner p c)))
+  arrows-are = ap (each around) triangles-are ∙ around-named (number z p) (trisIn (λ c. air (corner p c)))
 
 -- ── numbers tell edges apart ──
 

@@ -6,3 +6,10 @@ pub mod Sides
 pub mod Whole
 pub mod Outer
 pub mod Sheets
+pub mod Vertices
+pub mod Names
+pub mod Built
+pub mod Turned
+pub mod Tests
+pub mod Files
+pub mod Demand

@@ -2,25 +2,25 @@
 use mathlib.Core.Path.{_≡_, refl, sym, ap, _∙_, subst}
 use mathlib.Core.Bool.{Bool, true, false, not, cond, _&&_, _||_, or-false, and-true}
 use mathlib.Core.List.{List, [], _∷_, _++_, map, List·Memᴰ as In, List·Memᴰ·head as here, List·Memᴰ·tail as there}
-use mathlib.Core.Logic.{_⊎_, inl, inr}
-use Prim.Native.Nat.{ℕ, zero, suc, _+_, _-_, _*_, _/_, _%_, _≤_, _<_, min}
+use mathlib.Core.Logic.{inl, inr}
+use Prim.Native.Nat.{ℕ, _+_, _-_, _/_, _%_, _<_, min}
 use native.Mathlib.Omega.{arith}
 use lib.Dec.{T, eqb, eqb→eq, eqb-refl}
 use lib.ListN.{getD}
 use borrow.Author.Tests.{eqb-false}
 use Rattle.lists.specs.Lists.{any, all}
-use Rattle.lists.proofs.Member.{T→eq, eq→T, or-cases, and-both, and-left, and-right}
+use Rattle.lists.proofs.Member.{T→eq, and-both, and-left, and-right}
 use Rattle.lists.proofs.Closure.{bool-same}
 use Rattle.paper.specs.declared.Sizes.{Sizes}
 use Rattle.paper.specs.declared.Place.{Place}
-use Rattle.paper.specs.Lattice.{place, corner, sampleAt, inLattice}
+use Rattle.paper.specs.Lattice.{place, corner, inLattice}
 use Rattle.paper.specs.Within.{CubeIn}
-use Rattle.paper.specs.Tables.{Ends, ends, kinds}
+use Rattle.paper.specs.Tables.{ends, kinds}
 use Rattle.paper.proofs.Visits.{in-lattice, lattice-in}
 use Rattle.pairing.specs.Pairing.{edgeEnds, inOuterFace, outer}
 use Rattle.pairing.specs.Visitable.{meet, shared, inUnshared, unshared}
-use Rattle.pairing.proofs.Count.{T→false, eqb-of, all-in, all-map, in-map, map-append}
-use Rattle.pairing.proofs.Table.{span, flat, flatX, flatY, flatZ, Shape, Axis}
+use Rattle.pairing.proofs.Count.{T→false, eqb-of, at-any, all-in, all-map, in-map, map-append}
+use Rattle.pairing.proofs.Table.{span, flat, flatX, flatY, flatZ}
 use Rattle.pairing.proofs.Edges.{number, Edge, kind-of, anchor-of}
 use Rattle.pairing.proofs.Sides.{Known}
 use Rattle.pairing.proofs.Whole.{lone, Near, along, off, shared-after, shared-before, is-shared}
@@ -29,13 +29,6 @@ abbrev add : Place → Place → Place
 add m q = place (m .x + q .x) (m .y + q .y) (m .z + q .z)
 
 module _ {A : Type 0} where
-  any-member : (p : A → Bool) (l : List A) → T (any p l) → (a : A) × In a l × T (p a)
-  any-member p [] t = absurd t
-  any-member p (x ∷ l) t = elim (or-cases (p x) (any p l) t) [
-    | inl a ↦ (x, here refl, a)
-    | inr r ↦ let m : (a : A) × In a l × T (p a) = any-member p l r in (m .0, there (m .1), m .2)
-  ]
-
   all-from : (p : A → Bool) (l : List A) → ((a : A) → In a l → T (p a)) → T (all p l)
   all-from p [] f = tt
   all-from p (x ∷ l) f = and-both (p x) (all p l) (f x (here refl)) (all-from p l (λ a i. f a (there i)))
@@ -50,7 +43,7 @@ level g m h v ps t = bool-same (all (λ p. eqb (g p) v) (map (add m) ps)) (all (
 
     to : T (all (λ p. eqb (g p) v) (map (add m) ps)) → T (all (λ q. eqb (g q) 0) ps && eqb (g m) v)
     to s =
-        let o = any-member (λ q. eqb (g q) 0) ps t in
+        let o = at-any (λ q. eqb (g q) 0) ps t in
         let e : g (o .0) ≡ 0 = eqb→eq (g (o .0)) 0 (o .2) in
         let b : g m + g (o .0) ≡ v = at s (o .0) (o .1) in
         let a : g m ≡ v = omega arith in

@@ -1,38 +1,39 @@
 -- Demand 3 of a sheet's triangles by lattice edges: of any cubes that may be visited, and of those of a lattice. Assumes nothing.
-use mathlib.Core.Path.{_≡_, refl, sym, ap, _∙_, subst}
-use mathlib.Core.Bool.{Bool, true, false, cond, _&&_, _||_}
-use mathlib.Core.List.{List, [], _∷_, _++_, map, List·Memᴰ as In, List·Memᴰ·head as here, List·Memᴰ·tail as there, Memᴰ·cast}
-use mathlib.Core.Logic.{_⊎_, inl, inr}
-use Prim.Native.Nat.{ℕ, zero, suc, _+_, _≤_, _<_}
+use mathlib.Core.Path.{_≡_, sym, ap, _∙_, subst}
+use mathlib.Core.Bool.{Bool, false, cond, _&&_}
+use mathlib.Core.List.{List, [], map, List·Memᴰ as In, List·Memᴰ·tail as there, Memᴰ·cast}
+use Prim.Native.Nat.{ℕ, _<_}
 use native.Mathlib.Omega.{arith}
-use lib.Dec.{T, eqb, eqb→eq, eqb-refl}
-use Rattle.lists.specs.Lists.{range, consIf, keep, any, each, isIn}
-use Rattle.lists.specs.Reach.{Reach, here as arrived, step, reached}
-use Rattle.lists.proofs.Member.{T→eq, eq→T, or-cases, or-left, or-right, and-both, and-left, and-right, both3, any-each}
-use Rattle.lists.proofs.Rising.{Rising, keep-rising}
+use lib.Dec.{T, eqb, eqb-refl}
+use Rattle.lists.specs.Lists.{range, consIf, keep, each, isIn}
+use Rattle.lists.specs.Reach.{here as arrived, step, reached}
+use Rattle.lists.proofs.Member.{T→eq, or-left, both3, any-each}
+use Rattle.lists.proofs.Rising.{keep-rising}
 use Rattle.lists.proofs.Closure.{sound, complete, closed, marks-are}
 use Rattle.paper.specs.declared.Sizes.{Sizes}
 use Rattle.paper.specs.declared.Place.{Place}
-use Rattle.paper.specs.Lattice.{Lattice, place, airAt, cubes, cubeNo, cubeAt, corner, mixed, mixedAt, inLattice, Face, faces, stepOver, steps, visited}
+use Rattle.paper.specs.Lattice.{Lattice, airAt, cubes, cubeNo, cubeAt, corner, mixed, mixedAt, inLattice, Face, faces, stepOver, steps, visited}
 use Rattle.paper.specs.Within.{Sized, CubeIn}
-use Rattle.paper.specs.Sheet.{Sheet, rowAt, cubeTriangles, sheetOf}
-use Rattle.paper.proofs.Numbers.{cube-lt, cube-place, cube-inside, cube-back}
-use Rattle.paper.proofs.Visits.{in-lattice, lattice-in, step-lt, visited-exactly, visited-lt}
+use Rattle.paper.specs.Tables.{Tri}
+use Rattle.paper.specs.Sheet.{rowAt, cubeTriangles, sheetOf}
+use Rattle.paper.proofs.Numbers.{cube-place, cube-inside, cube-back}
+use Rattle.paper.proofs.Visits.{in-lattice, lattice-in, step-lt, visited-lt}
 use Rattle.pairing.specs.Pairing.{times, outer, Paired}
 use Rattle.pairing.specs.Visitable.{trianglesAt, unshared}
-use Rattle.pairing.proofs.Count.{each-map, map-in, in-map, map-unique, Unique, none, more}
-use Rattle.pairing.proofs.Whole.{Spread, Settled, total, times-are, settled, lone}
+use Rattle.pairing.proofs.Count.{list-in, in-list, any-at, each-map, map-in, in-map, map-unique, rising-unique, Unique}
+use Rattle.pairing.proofs.Table.{flat}
+use Rattle.pairing.proofs.Whole.{Spread, Settled, times-are, settled, lone}
 use Rattle.pairing.proofs.Outer.{unshared-is, outer-is}
 
 -- ── any cubes that may be visited ──
 module _ (z : Sizes) (air may : Place → Bool) (within : (p : Place) → T (may p) → CubeIn z p) (vs : List Place) (sp : Spread air may vs) where
-  abbrev sheet : List Rattle.paper.specs.Tables.Tri
+  abbrev sheet : List Tri
   sheet = each (trianglesAt z air) vs
 
   settle : (e f : ℕ) → 0 < times sheet e f → Settled z air may within vs sp e f
   settle e f h = settled z air may within vs sp e f (λ y. omega (arith, times-are z air may within vs sp e f, y))
 
-  pub paired-where : (apart : ℕ → ℕ → Bool) → ((e f : ℕ) (s : Settled z air may within vs sp e f) → apart e f ≡ lone may (Rattle.pairing.proofs.Table.flat (s .u) (s .w)) (s .m)) → Paired apart sheet
+  pub paired-where : (apart : ℕ → ℕ → Bool) → ((e f : ℕ) (s : Settled z air may within vs sp e f) → apart e f ≡ lone may (flat (s .u) (s .w)) (s .m)) → Paired apart sheet
   paired-where apart h = record {
     once = λ e f n. times-are z air may within vs sp e f ∙ settle e f n .once;
     reverse = λ e f n. times-are z air may within vs sp f e ∙ settle e f n .reverse ∙ sym (ap (λ (b : Bool). cond {A = ℕ} b 0 1) (h e f (settle e f n)));
@@ -43,26 +44,6 @@ module _ (z : Sizes) (air may : Place → Bool) (within : (p : Place) → T (may
   paired-unshared = paired-where (unshared z may) (λ e f s. unshared-is z air (s .known) may)
 
 -- ── the cubes of a lattice ──
-
-list-in : {k : ℕ} {l : List ℕ} → In k l → T (isIn l k)
-list-in {k} {l = x ∷ l} (here e) = or-left (eqb k x) (isIn l k) (subst (λ (n : ℕ). T (eqb k n)) e (eqb-refl k))
-list-in {k} {l = x ∷ l} (there i) = or-right (eqb k x) (isIn l k) (list-in i)
-
-in-list : (k : ℕ) (l : List ℕ) → T (isIn l k) → In k l
-in-list k [] t = absurd t
-in-list k (x ∷ l) t = elim (or-cases (eqb k x) (isIn l k) t) [ inl e ↦ here (eqb→eq k x e) | inr r ↦ there (in-list k l r) ]
-
-any-at : {A : Type 0} (p : A → Bool) {l : List A} {a : A} → In a l → T (p a) → T (any p l)
-any-at p {l = x ∷ l} (here e) t = or-left (p x) (any p l) (subst (λ k. T (p k)) e t)
-any-at p {l = x ∷ l} (there i) t = or-right (p x) (any p l) (any-at p i t)
-
-rising-unique : (b : ℕ) (l : List ℕ) → Rising b l → Unique l
-rising-unique b [] r = none
-rising-unique b (x ∷ l) r = more (λ (i : In x l). omega (arith, bound (suc x) l x (r .1) i)) (rising-unique (suc x) l (r .1))
-  where
-    bound : (b : ℕ) (l : List ℕ) (k : ℕ) → Rising b l → In k l → b ≤ k
-    bound b (x ∷ l) k r (here e) = omega (arith, r .0)
-    bound b (x ∷ l) k r (there i) = omega (arith, r .0, bound (suc x) l k (r .1) i)
 
 module _ (L : Lattice) (sized : Sized (L .size)) (start : ℕ) (inside : start < cubes (L .size)) where
   abbrev z : Sizes

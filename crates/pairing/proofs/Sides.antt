@@ -1,14 +1,12 @@
 -- Where a directed edge occurs: in one cube, or in one of the two that share its face; its reverse there too. Assumes nothing.
 use mathlib.Core.Path.{_≡_, refl, sym, ap, _∙_, subst}
-use mathlib.Core.Bool.{Bool, true, false, not, cond, _&&_, _||_}
-use mathlib.Core.List.{List, [], _∷_, _++_, map, List·Memᴰ as In}
-use mathlib.Core.Logic.{_⊎_, inl, inr}
-use Prim.Native.Nat.{ℕ, zero, suc, _+_, _-_, _*_, _/_, _%_, _≤_, _<_}
+use mathlib.Core.Bool.{Bool}
+use mathlib.Core.List.{List·Memᴰ as In}
+use mathlib.Core.Logic.{inl, inr}
+use Prim.Native.Nat.{ℕ, _+_, _/_, _%_}
 use native.Mathlib.Omega.{arith}
-use native.Mathlib.Decide.{ℕ-discrete}
-use lib.Dec.{T, eqb, ltb, eqb→eq, ltb→lt, lt→ltb}
-use Rattle.lists.specs.Lists.{all, each}
-use Rattle.lists.proofs.Member.{T→eq, eq→T, or-cases, and-both, and-left, and-right}
+use lib.Dec.{T}
+use Rattle.lists.specs.Lists.{each}
 use Rattle.lists.proofs.Closure.{bool-same}
 use Rattle.paper.specs.declared.Sizes.{Sizes}
 use Rattle.paper.specs.declared.Place.{Place}
@@ -16,11 +14,12 @@ use Rattle.paper.specs.Lattice.{place, corner}
 use Rattle.paper.specs.Within.{SampleIn, CubeIn}
 use Rattle.paper.specs.Sheet.{rowOf}
 use Rattle.paper.proofs.Numbers.{corner-inside}
-use Rattle.pairing.specs.Pairing.{count, Arrow, around, isArrow, times}
+use Rattle.pairing.specs.Pairing.{count, Arrow, around, isArrow}
 use Rattle.pairing.specs.Visitable.{trianglesAt}
-use Rattle.pairing.proofs.Count.{T→false, eqb-of, pick, all-both, count-map, count-same, count-each, sum, sum-one, sum-none, sum-some, Unique}
-use Rattle.pairing.proofs.Table.{Side, sideOf, same, sides, arrowsIn, sides-are, neat, neat-in, good, goods, Good, is-good, Moved, Shape, Neat, is-neat, flat, flat-cases, Axis, across, lowFace, highFace, lowRow, highRow}
-use Rattle.pairing.proofs.Edges.{number, numArrow, arrows-are, number-moved, corner-moved, Edge, One, one-of}
+use Rattle.pairing.proofs.Count.{is-arrow, arrow-is, pick, count-map, count-same}
+use Rattle.pairing.proofs.Table.{Side, sideOf, same, is-same, same-is, sides, arrowsIn, sides-are, Good, good-at, Moved, Shape, Neat, neat-at, flat, Axis, across, lowRow, highRow}
+use Rattle.pairing.proofs.Names.{namedArrow}
+use Rattle.pairing.proofs.Edges.{number, arrows-are, number-moved, corner-moved, Edge, One, one-of}
 
 -- ── corners as steps ──
 
@@ -61,18 +60,13 @@ corner-add p a b c h k l =
 
 -- a side that a cube has
 pub side-good : (s : ℕ → Bool) (o u w : ℕ) → (count (same o u w) (sides s) ≡ 0 → ⊥) → Good s o u w
-unfolding same
 side-good s o u w n =
     let l = arrowsIn s in
-    let q = pick (λ d. same o u w (sideOf d)) (λ d. good s (sides s) (sideOf d)) l (goods s)
-    (λ y. n (sym (ap (count (same o u w)) (sides-are s)) ∙ count-map (same o u w) sideOf l ∙ y)) in
+    let q = pick (λ d. same o u w (sideOf d)) l (λ y. n (sym (ap (count (same o u w)) (sides-are s)) ∙ count-map (same o u w) sideOf l ∙ y)) in
     let e = sideOf (q .0) in
-    let r = and-left (eqb u (e .u) && eqb w (e .w)) (eqb o (e .o)) (q .1) in
-    let eo = eqb→eq o (e .o) (and-right (eqb u (e .u) && eqb w (e .w)) (eqb o (e .o)) (q .1)) in
-    let eu = eqb→eq u (e .u) (and-left (eqb u (e .u)) (eqb w (e .w)) r) in
-    let ew = eqb→eq w (e .w) (and-right (eqb u (e .u)) (eqb w (e .w)) r) in
-    subst (λ (x : ℕ). Good s x u w) (sym eo)
-    (subst (λ (x : ℕ). Good s (e .o) x w) (sym eu) (subst (λ (x : ℕ). Good s (e .o) (e .u) x) (sym ew) (is-good s (q .0) (q .2))))
+    let r = is-same o u w e (q .2) in
+    subst (λ (x : ℕ). Good s x u w) (sym (r .offset))
+    (subst (λ (x : ℕ). Good s (e .o) x w) (sym (r .first)) (subst (λ (x : ℕ). Good s (e .o) (e .u) x) (sym (r .second)) (good-at s (q .0) (q .1))))
 
 module _ (z : Sizes) (air : Place → Bool) where
   -- the sides of a cube's corners
@@ -101,15 +95,22 @@ module _ (z : Sizes) (air : Place → Bool) where
     seven = m .seven;
   }
 
-  known-at : (p : Place) → CubeIn z p → (d : Arrow) → Neat d → Known (number z p (d .from)) (number z p (d .to)) (corner p (sideOf d .o)) (sideOf d .u) (sideOf d .w)
-  known-at p h d n = record {
-    first = edge-at p h (n .from);
-    second = edge-at p h (n .to);
-    shape = n .shape;
-    reverse = n .reverse;
-    e-is = number-moved z p (n .from);
-    f-is = number-moved z p (n .to);
-  }
+  num-arrow : (e f : ℕ) (p : Place) (d : Arrow) → number z p (d .from) ≡ e → number z p (d .to) ≡ f → T (isArrow e f (namedArrow (number z p) d))
+  unfolding namedArrow
+  num-arrow e f p d a b = arrow-is a b
+
+  known-at : {e f : ℕ} (p : Place) → CubeIn z p → (d : Arrow) → Neat d → T (isArrow e f (namedArrow (number z p) d)) → Known e f (corner p (sideOf d .o)) (sideOf d .u) (sideOf d .w)
+  unfolding namedArrow
+  known-at {e} {f} p h d n t =
+      let q = is-arrow e f (namedArrow (number z p) d) t in
+      record {
+        first = edge-at p h (n .from);
+        second = edge-at p h (n .to);
+        shape = n .shape;
+        reverse = n .reverse;
+        e-is = sym (q .0) ∙ number-moved z p (n .from);
+        f-is = sym (q .1) ∙ number-moved z p (n .to);
+      }
 
   known-one : {e f : ℕ} {m m′ : Place} {u w u′ w′ : ℕ} → Known e f m u w → Known e f m′ u′ w′ → One z m u w m′ u′ w′
   known-one a b =
@@ -118,42 +119,32 @@ module _ (z : Sizes) (air : Place → Bool) where
   -- where a cube's corner o is m, it has the edge as often as the side (o, u, w)
   pub hits-at : {e f : ℕ} {m : Place} {u w : ℕ} → Known e f m u w → (p : Place) → CubeIn z p → (o : ℕ) → corner p o ≡ m
       → hits e f p ≡ count (same o u w) (sides (at p))
-  unfolding hits isArrow numArrow same
+  unfolding hits
   hits-at {e} {f} {m} {u} {w} k p h o c =
       ap (count (isArrow e f)) (arrows-are z air p)
-      ∙ count-map (isArrow e f) (numArrow z p) (arrowsIn (at p))
-      ∙ count-same (λ d. isArrow e f (numArrow z p d)) (λ d. same o u w (sideOf d)) neat (arrowsIn (at p)) (neat-in (at p)) agree
+      ∙ count-map (isArrow e f) (namedArrow (number z p)) (arrowsIn (at p))
+      ∙ count-same (λ d. isArrow e f (namedArrow (number z p) d)) (λ d. same o u w (sideOf d)) (arrowsIn (at p)) agree
       ∙ sym (count-map (same o u w) sideOf (arrowsIn (at p)))
       ∙ ap (count (same o u w)) (sides-are (at p))
     where
-      agree : (d : Arrow) → T (neat d) → isArrow e f (numArrow z p d) ≡ same o u w (sideOf d)
-      agree d t = bool-same (isArrow e f (numArrow z p d)) (same o u w (sideOf d)) to from
+      agree : (d : Arrow) → In d (arrowsIn (at p)) → isArrow e f (namedArrow (number z p) d) ≡ same o u w (sideOf d)
+      agree d i = bool-same (isArrow e f (namedArrow (number z p) d)) (same o u w s) to from
         where
           s : Side
           s = sideOf d
 
-          n : Known (number z p (d .from)) (number z p (d .to)) (corner p (s .o)) (s .u) (s .w)
-          n = known-at p h d (is-neat d t)
-
-          to : T (isArrow e f (numArrow z p d)) → T (same o u w s)
+          to : T (isArrow e f (namedArrow (number z p) d)) → T (same o u w s)
           to q =
-              let a = eqb→eq (number z p (d .from)) e (and-left (eqb (number z p (d .from)) e) (eqb (number z p (d .to)) f) q) in
-              let b = eqb→eq (number z p (d .to)) f (and-right (eqb (number z p (d .from)) e) (eqb (number z p (d .to)) f) q) in
-              let r : One z m u w (corner p (s .o)) (s .u) (s .w)
-              = known-one k (record { first = n .first; second = n .second; shape = n .shape; reverse = n .reverse; e-is = sym a ∙ n .e-is; f-is = sym b ∙ n .f-is }) in
-              and-both (eqb u (s .u) && eqb w (s .w)) (eqb o (s .o)) (and-both (eqb u (s .u)) (eqb w (s .w)) (eqb-of (r .first)) (eqb-of (r .second)))
-              (eqb-of (corner-code p o (s .o) (c ∙ r .place)))
+              let r = known-one k (known-at p h d (neat-at (at p) d i) q) in
+              same-is o u w s (record { offset = corner-code p o (s .o) (c ∙ r .place); first = r .first; second = r .second })
 
-          from : T (same o u w s) → T (isArrow e f (numArrow z p d))
+          from : T (same o u w s) → T (isArrow e f (namedArrow (number z p) d))
           from q =
-              let r = and-left (eqb u (s .u) && eqb w (s .w)) (eqb o (s .o)) q in
-              let eo = eqb→eq o (s .o) (and-right (eqb u (s .u) && eqb w (s .w)) (eqb o (s .o)) q) in
-              let eu = eqb→eq u (s .u) (and-left (eqb u (s .u)) (eqb w (s .w)) r) in
-              let ew = eqb→eq w (s .w) (and-right (eqb u (s .u)) (eqb w (s .w)) r) in
-              let em : corner p (s .o) ≡ m = ap (corner p) (sym eo) ∙ c in
-              and-both (eqb (number z p (d .from)) e) (eqb (number z p (d .to)) f)
-              (eqb-of (n .e-is ∙ (λ i. number z (em i) (sym eu i)) ∙ sym (k .e-is)))
-              (eqb-of (n .f-is ∙ (λ i. number z (em i) (sym ew i)) ∙ sym (k .f-is)))
+              let r = is-same o u w s q in
+              let n = neat-at (at p) d i in
+              let em : corner p (s .o) ≡ m = ap (corner p) (sym (r .offset)) ∙ c in
+              num-arrow e f p d (number-moved z p (n .from) ∙ (λ i. number z (em i) (sym (r .first) i)) ∙ sym (k .e-is))
+              (number-moved z p (n .to) ∙ (λ i. number z (em i) (sym (r .second) i)) ∙ sym (k .f-is))
 
   -- a cube that has the edge: its side there
   pub record Found (e f : ℕ) (p : Place) : Type 0 where
@@ -164,24 +155,12 @@ module _ (z : Sizes) (air : Place → Bool) where
     pub good : Good (at p) o u w
 
   pub found : (e f : ℕ) (p : Place) → CubeIn z p → (hits e f p ≡ 0 → ⊥) → Found e f p
-  unfolding hits isArrow numArrow
+  unfolding hits
   found e f p h n =
       let l = arrowsIn (at p) in
-      let q = pick (λ d. isArrow e f (numArrow z p d)) (λ d. neat d && good (at p) (sides (at p)) (sideOf d)) l
-      (all-both neat (λ d. good (at p) (sides (at p)) (sideOf d)) l (neat-in (at p)) (goods (at p)))
-      (λ y. n (ap (count (isArrow e f)) (arrows-are z air p) ∙ count-map (isArrow e f) (numArrow z p) l ∙ y)) in
-      let d = q .0 in
-      let t = and-left (neat d) (good (at p) (sides (at p)) (sideOf d)) (q .2) in
-      let k = known-at p h d (is-neat d t) in
-      let a = eqb→eq (number z p (d .from)) e (and-left (eqb (number z p (d .from)) e) (eqb (number z p (d .to)) f) (q .1)) in
-      let b = eqb→eq (number z p (d .to)) f (and-right (eqb (number z p (d .from)) e) (eqb (number z p (d .to)) f) (q .1)) in
-      record {
-        o = sideOf d .o;
-        u = sideOf d .u;
-        w = sideOf d .w;
-        known = record { first = k .first; second = k .second; shape = k .shape; reverse = k .reverse; e-is = sym a ∙ k .e-is; f-is = sym b ∙ k .f-is };
-        good = is-good (at p) d (and-right (neat d) (good (at p) (sides (at p)) (sideOf d)) (q .2));
-      }
+      let q = pick (λ d. isArrow e f (namedArrow (number z p) d)) l (λ y. n (ap (count (isArrow e f)) (arrows-are z air p) ∙ count-map (isArrow e f) (namedArrow (number z p)) l ∙ y)) in
+      let s = sideOf (q .0) in
+      record { o = s .o; u = s .u; w = s .w; known = known-at p h (q .0) (neat-at (at p) (q .0) (q .1)) (q .2); good = good-at (at p) (q .0) (q .1) }
 
   -- the same of an edge that is known already
   pub record Spot (m : Place) (u w : ℕ) (p : Place) : Type 0 where

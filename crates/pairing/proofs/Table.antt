@@ -4,16 +4,16 @@ use mathlib.Core.Path.{_≡_, refl, sym, ap, _∙_, subst}
 use mathlib.Core.Bool.{Bool, true, false, not, cond, _&&_, _||_, and-comm}
 use mathlib.Core.List.{List, [], _∷_, _++_, map, List·Memᴰ as In}
 use mathlib.Core.Logic.{_⊎_, inl, inr}
-use Prim.Native.Nat.{ℕ, zero, suc, _+_, _-_, _*_, _/_, _%_, _<_, min}
-use lib.Dec.{T, eqb, ltb, eqb→eq, ltb→lt, eqb-refl}
-use lib.ListN.{length, getD, List·getD-map}
+use Prim.Native.Nat.{ℕ, suc, _+_, _-_, _*_, _/_, _%_, _<_, min}
+use lib.Dec.{T, eqb, ltb, eqb→eq, ltb→lt}
+use lib.ListN.{getD, List·getD-map}
 use Rattle.lists.specs.Lists.{range, keep, any, all, each}
-use Rattle.lists.proofs.Member.{T→eq, or-cases, and-both, and-left, and-right}
+use Rattle.lists.proofs.Member.{T→eq, or-cases, and-both, and-left, and-right, and3, both3}
 use Rattle.paper.specs.declared.Place.{Place}
 use Rattle.paper.specs.Lattice.{place, corner, mixed}
 use Rattle.paper.specs.Tables.{Ends, Tet, Tri, ends, tri, tets, rows, tetEdges, kinds, low, joins, kindOf}
 use Rattle.paper.specs.Sheet.{rowOf}
-use Rattle.pairing.specs.Pairing.{count, Arrow, arrow, around}
+use Rattle.pairing.specs.Pairing.{count, Arrow, around}
 use Rattle.pairing.proofs.Count.{holds, eqb-of, all-in, all-getD, all-each, all-map, each-map, each-each, map-each, count-step, count-keep, map-in}
 
 -- an edge of a cube as one number, its code: 8 times the corner at its anchor, plus its kind
@@ -70,7 +70,7 @@ same o u w d = eqb u (d .u) && eqb w (d .w) && eqb o (d .o)
 abbrev moved : ℕ → ℕ → ℕ → List Bool
 moved o u c =
     eqb (o % 2 + u / 8 % 2) (c / 8 % 2) ∷ eqb (o / 2 % 2 + u / 8 / 2 % 2) (c / 8 / 2 % 2) ∷ eqb (o / 4 + u / 8 / 4) (c / 8 / 4)
-    ∷ eqb (u % 8) (c % 8) ∷ ltb c 64 ∷ ltb u 64 ∷ ltb (u % 8) 7 ∷ []
+    ∷ eqb (u % 8) (c % 8) ∷ ltb c 64 ∷ ltb (u % 8) 7 ∷ []
 
 -- two codes told from the least of their anchors; on each axis an end stands there, and they leave two axes at least
 abbrev shaped : ℕ → ℕ → List Bool
@@ -86,8 +86,7 @@ tests l = all (λ b. b) l
 abbrev neatness : Arrow → List Bool
 neatness d =
     let s = sideOf d in
-    tests (moved (s .o) (s .u) (d .from)) ∷ tests (moved (s .o) (s .w) (d .to)) ∷ tests (shaped (s .u) (s .w)) ∷ tests (shaped (s .w) (s .u))
-    ∷ ltb (s .o) 8 ∷ []
+    tests (moved (s .o) (s .u) (d .from)) ∷ tests (moved (s .o) (s .w) (d .to)) ∷ tests (shaped (s .u) (s .w)) ∷ tests (shaped (s .w) (s .u)) ∷ []
 
 unfoldable pub neat : Arrow → Bool
 neat d = tests (neatness d)
@@ -273,7 +272,7 @@ sides-are s =
     go (t ∷ l) =
         λ i. List·getD-map (λ r. map sideOf (each around (map (codeTri t) r))) rows (rowOf (s (t .a)) (s (t .b)) (s (t .c)) (s (t .d))) [] i ++ go l i
 
-pub neat-in : (s : ℕ → Bool) → T (all neat (arrowsIn s))
+neat-in : (s : ℕ → Bool) → T (all neat (arrowsIn s))
 unfolding arrowsIn trisIn
 neat-in s =
     subst (λ l. T (all neat l)) (sym (each-each around (λ t. map (codeTri t) (at t)) tets))
@@ -319,13 +318,13 @@ pub record Good (s : ℕ → Bool) (o u w : ℕ) : Type 0 where
   pub turn : count (same o w u) (sides s) ≡ cond (eqb (flat u w) 0) 1 0
   pub face : T (eqb (flat u w) 0 || cond (eqb o 0) (lowFace (flat u w) s) (highFace (flat u w) s))
 
-pub goods : (s : ℕ → Bool) → T (all (λ d. good s (sides s) (sideOf d)) (arrowsIn s))
+goods : (s : ℕ → Bool) → T (all (λ d. good s (sides s) (sideOf d)) (arrowsIn s))
 unfolding test sides
 goods s =
     subst T (all-map (good s (sides s)) sideOf (arrowsIn s))
     (subst (λ l. T (all (good s (sides s)) l)) (sym (sides-are s)) (holds (cubeTests (faceX cells) (faceY cells) (faceZ cells) s (sides s)) (by-corners s) 0))
 
-pub is-good : (s : ℕ → Bool) (d : Arrow) → T (good s (sides s) (sideOf d)) → Good s (sideOf d .o) (sideOf d .u) (sideOf d .w)
+is-good : (s : ℕ → Bool) (d : Arrow) → T (good s (sides s) (sideOf d)) → Good s (sideOf d .o) (sideOf d .u) (sideOf d .w)
 unfolding good sideOf
 is-good s d t =
     let e = sideOf d in
@@ -344,7 +343,6 @@ pub record Moved (o u c : ℕ) : Type 0 where
   pub z : o / 4 + u / 8 / 4 ≡ c / 8 / 4
   pub kind : u % 8 ≡ c % 8
   pub small : c < 64
-  pub small′ : u < 64
   pub seven : u % 8 < 7
 
 -- two codes told from the least of their anchors
@@ -365,7 +363,6 @@ pub record Neat (d : Arrow) : Type 0 where
   pub to : Moved (sideOf d .o) (sideOf d .w) (d .to)
   pub shape : Shape (sideOf d .u) (sideOf d .w)
   pub reverse : Shape (sideOf d .w) (sideOf d .u)
-  pub eight : sideOf d .o < 8
 
 is-moved : (o u c : ℕ) → T (tests (moved o u c)) → Moved o u c
 is-moved o u c t =
@@ -376,8 +373,7 @@ is-moved o u c t =
       z = eqb→eq _ _ (holds l t 2);
       kind = eqb→eq _ _ (holds l t 3);
       small = ltb→lt _ _ (holds l t 4);
-      small′ = ltb→lt _ _ (holds l t 5);
-      seven = ltb→lt _ _ (holds l t 6);
+      seven = ltb→lt _ _ (holds l t 5);
     }
 
 is-shape : (u w : ℕ) → T (tests (shaped u w)) → Shape u w
@@ -396,7 +392,7 @@ is-shape u w t =
       turn = eqb→eq _ _ (holds l t 9);
     }
 
-pub is-neat : (d : Arrow) → T (neat d) → Neat d
+is-neat : (d : Arrow) → T (neat d) → Neat d
 unfolding neat
 is-neat d t =
     let l = neatness d in
@@ -406,8 +402,29 @@ is-neat d t =
       to = is-moved (s .o) (s .w) (d .to) (holds l t 1);
       shape = is-shape (s .u) (s .w) (holds l t 2);
       reverse = is-shape (s .w) (s .u) (holds l t 3);
-      eight = ltb→lt _ _ (holds l t 4);
     }
+
+-- both of each directed edge of a cube
+pub good-at : (s : ℕ → Bool) (d : Arrow) → In d (arrowsIn s) → Good s (sideOf d .o) (sideOf d .u) (sideOf d .w)
+good-at s d i = is-good s d (all-in (λ d. good s (sides s) (sideOf d)) (goods s) i)
+
+pub neat-at : (s : ℕ → Bool) (d : Arrow) → In d (arrowsIn s) → Neat d
+neat-at s d i = is-neat d (all-in neat (neat-in s) i)
+
+pub record Is (o u w : ℕ) (d : Side) : Type 0 where
+  pub offset : o ≡ d .o
+  pub first : u ≡ d .u
+  pub second : w ≡ d .w
+
+pub is-same : (o u w : ℕ) (d : Side) → T (same o u w d) → Is o u w d
+unfolding same
+is-same o u w d t =
+    let e = and3 (eqb u (d .u)) (eqb w (d .w)) (eqb o (d .o)) t in
+    record { offset = eqb→eq o (d .o) (e .2); first = eqb→eq u (d .u) (e .0); second = eqb→eq w (d .w) (e .1) }
+
+pub same-is : (o u w : ℕ) (d : Side) → Is o u w d → T (same o u w d)
+unfolding same
+same-is o u w d e = both3 (eqb u (d .u)) (eqb w (d .w)) (eqb o (d .o)) (eqb-of (e .first)) (eqb-of (e .second)) (eqb-of (e .offset))
 
 -- the sides of a low face by its pattern
 abbrev pub tableOf : ℕ → List (List Side)
@@ -473,11 +490,11 @@ honest s d i =
 -- where the low face of one cube is the high face of another, a side of it in one is its reverse in the other
 pub across : (f : ℕ) → Axis f → (u w : ℕ) → flat w u ≡ f → (s s′ : ℕ → Bool) → lowRow f s′ ≡ highRow f s
     → count (same f u w) (sides s) ≡ count (same 0 w u) (sides s′)
-unfolding faced lows highs same
+unfolding faced lows highs
 across f ax u w e s s′ h =
     let p = faces-at f ax s in
     let q = faces-at f ax s′ in
-    sym (count-keep (same f u w) (λ d. eqb (d .o) f) (sides s) (λ d i t. eqb-of (sym (eqb→eq f (d .o) (and-right (eqb u (d .u) && eqb w (d .w)) (eqb f (d .o)) t)))))
+    sym (count-keep (same f u w) (λ d. eqb (d .o) f) (sides s) (λ d i t. eqb-of (sym (is-same f u w d t .offset))))
     ∙ count-turned f u w (highs f (sides s)) (getD (tableOf f) (highRow f s) [])
     (and-right (alike (lows f (sides s)) (getD (tableOf f) (lowRow f s) [])) (turned f (highs f (sides s)) (getD (tableOf f) (highRow f s) [])) p)
     ∙ ap (λ (n : ℕ). count (same 0 w u) (getD (tableOf f) n [])) (sym h)
@@ -487,10 +504,5 @@ across f ax u w e s s′ h =
   where
     low-one : (d : Side) → In d (sides s′) → T (same 0 w u d) → T (eqb (d .o) 0 && eqb (d .f) f)
     low-one d i t =
-        let a = eqb w (d .u) in
-        let b = eqb u (d .w) in
-        let c = eqb 0 (d .o) in
-        let eu = eqb→eq w (d .u) (and-left a b (and-left (a && b) c t)) in
-        let ew = eqb→eq u (d .w) (and-right a b (and-left (a && b) c t)) in
-        and-both (eqb (d .o) 0) (eqb (d .f) f) (eqb-of (sym (eqb→eq 0 (d .o) (and-right (a && b) c t))))
-        (eqb-of (honest s′ d i ∙ (λ j. flat (sym eu j) (sym ew j)) ∙ e))
+        let q = is-same 0 w u d t in
+        and-both (eqb (d .o) 0) (eqb (d .f) f) (eqb-of (sym (q .offset))) (eqb-of (honest s′ d i ∙ (λ j. flat (sym (q .first) j) (sym (q .second) j)) ∙ e))

@@ -1,13 +1,13 @@
 -- The pairing over any list of cubes that is closed under steps through mixed faces into cubes that may be visited, for any sides of the
 -- samples. Assumes nothing.
 use mathlib.Core.Path.{_≡_, refl, sym, ap, _∙_, subst}
-use mathlib.Core.Bool.{Bool, true, false, not, cond, _&&_, _||_}
-use mathlib.Core.List.{List, [], _∷_, _++_, map, List·Memᴰ as In, List·Memᴰ·head as here, List·Memᴰ·tail as there, Memᴰ·cast}
+use mathlib.Core.Bool.{Bool, true, false, not, cond, _&&_}
+use mathlib.Core.List.{List, map, List·Memᴰ as In, List·Memᴰ·head as here, List·Memᴰ·tail as there, Memᴰ·cast}
 use mathlib.Core.Logic.{_⊎_, inl, inr}
-use Prim.Native.Nat.{ℕ, zero, suc, _+_, _-_, _*_, _/_, _%_, _≤_, _<_}
+use Prim.Native.Nat.{ℕ, _+_, _-_, _/_, _%_}
 use native.Mathlib.Omega.{arith}
-use lib.Dec.{T, eqb, eqb→eq, lt→ltb, T-not}
-use Rattle.lists.specs.Lists.{all, each}
+use lib.Dec.{T, eqb, eqb→eq, lt→ltb}
+use Rattle.lists.specs.Lists.{each}
 use Rattle.lists.proofs.Member.{T→eq, eq→T, or-cases, and-both, and-left, and-right, and3, both3}
 use Rattle.paper.specs.declared.Sizes.{Sizes}
 use Rattle.paper.specs.declared.Place.{Place}

@@ -1,6 +1,7 @@
 -- Demand 3 of any cubes that may be visited and any sides: what document 01 says of the cubes of a lattice and of its samples. Assumes
 -- nothing.
-use mathlib.Core.Bool.{Bool, true, false, not, _&&_, _||_}
+use mathlib.Core.Path.{_≡_, refl}
+use mathlib.Core.Bool.{Bool, true, not, _&&_, _||_}
 use mathlib.Core.List.{List, [], _∷_, _++_, map}
 use Prim.Native.Nat.{ℕ, _-_, _/_, _%_, min}
 use lib.Dec.{eqb}
@@ -8,10 +9,10 @@ use lib.ListN.{getD}
 use Rattle.lists.specs.Lists.{all, each}
 use Rattle.paper.specs.declared.Sizes.{Sizes}
 use Rattle.paper.specs.declared.Place.{Place}
-use Rattle.paper.specs.Lattice.{place, corner, sampleAt, RBN, LTN, LBF}
-use Rattle.paper.specs.Tables.{Tri, tets, rows}
-use Rattle.paper.specs.Sheet.{rowOf, triEdges}
-use Rattle.pairing.specs.Pairing.{edgeEnds}
+use Rattle.paper.specs.Lattice.{place, corner, sampleNo, sampleAt, RBN, LTN, LBF, RTF}
+use Rattle.paper.specs.Tables.{Tri, tets, rows, tetEdges, kinds, low, joins, kindOf}
+use Rattle.paper.specs.Sheet.{edgeNo, rowOf, tetEdge, triEdges}
+use Rattle.pairing.specs.Pairing.{around, isArrow, times, edgeEnds, pairUp}
 
 -- the triangles of the cube at p, by lattice edges, where `air` has the side of each sample
 unfoldable pub trianglesAt : Sizes → (Place → Bool) → Place → List Tri
@@ -46,3 +47,17 @@ inUnshared may q ps =
 
 unfoldable pub unshared : Sizes → (Place → Bool) → ℕ → ℕ → Bool
 unshared z may e f = inUnshared may (meet z e f) (edgeEnds z e ++ edgeEnds z f)
+
+-- ── worked ──
+
+-- 4×4×4, of which the cube at (1, 1, 1) and one next to it may be visited, along x, y or z; only its RTF is air, where both faces meet
+worked :
+    let z : Sizes = record { nx = 4; ny = 4; nz = 4 } in
+    let c : Place = place 1 1 1 in
+    map
+    (λ b.
+    pairUp (unshared z (λ p. samePlace p c || samePlace p (corner c b)))
+    (each (trianglesAt z (samePlace (corner c RTF))) (c ∷ corner c b ∷ []))) (RBN ∷ LTN ∷ LBF ∷ [])
+    ≡ (true ∷ true ∷ true ∷ [])
+unfolding times around isArrow edgeEnds trianglesAt meet samePlace shared inUnshared unshared sampleNo sampleAt corner tets rows tetEdges kinds low joins kindOf edgeNo rowOf tetEdge triEdges
+worked = refl
