@@ -1,5 +1,5 @@
--- Demand 3 of any cubes that may be visited and any sides: what document 01 says of the cubes of a lattice and of its samples. Assumes
--- nothing.
+-- Demand 3 where any test says which cubes may be visited and which samples are air. Document 01: the cubes of the lattice, and samples above
+-- 0. Assumes nothing.
 use mathlib.Core.Path.{_≡_, refl}
 use mathlib.Core.Bool.{Bool, true, not, _&&_, _||_}
 use mathlib.Core.List.{List, [], _∷_, _++_, map}
@@ -50,7 +50,8 @@ unshared z may e f = inUnshared may (meet z e f) (edgeEnds z e ++ edgeEnds z f)
 
 -- ── worked ──
 
--- 4×4×4, of which the cube at (1, 1, 1) and one next to it may be visited, along x, y or z; only its RTF is air, where both faces meet
+-- 4×4×4, of which the cube at (1, 1, 1) and one next to it may be visited, along x, y or z; only its RTF is air, a corner of the
+-- face that they share
 worked :
     let z : Sizes = record { nx = 4; ny = 4; nz = 4 } in
     let c : Place = place 1 1 1 in
