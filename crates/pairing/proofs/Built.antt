@@ -1,0 +1,72 @@
+-- Demand 3 of a built sheet, by vertex numbers. Assumes nothing.
+use mathlib.Core.Path.{_≡_, refl, sym, ap, _∙_, subst}
+use mathlib.Core.Bool.{Bool}
+use mathlib.Core.List.{List, [], _∷_, map, List·Memᴰ as In, List·Memᴰ·head as here, List·Memᴰ·tail as there}
+use Prim.Native.Nat.{ℕ, suc, _≤_, _<_}
+use native.Mathlib.Omega.{arith}
+use lib.Dec.{ltb}
+use lib.ListN.{length, getD}
+use borrow.Author.Tests.{lt-ltb, le-ltb}
+use Rattle.lists.specs.Lists.{consIf, keep, rank}
+use Rattle.lists.proofs.Rising.{Rising, rank-lt}
+use Rattle.paper.specs.Lattice.{Lattice, cubes}
+use Rattle.paper.specs.Within.{Sized}
+use Rattle.paper.specs.Tables.{Tri, tri}
+use Rattle.paper.specs.Sheet.{Sheet, numbered, sheetOf}
+use Rattle.pairing.specs.Pairing.{Paired, outer, Demand3}
+use Rattle.pairing.proofs.Count.{list-in, map-in, map-map, rising-unique}
+use Rattle.pairing.proofs.Names.{named, Below, by-number, times-below}
+use Rattle.pairing.proofs.Sheets.{by-edge}
+use Rattle.pairing.proofs.Vertices.{corners, edges-rise, one-vertex}
+
+-- in a list that rises, the rank of a member is its place
+rank-none : (b : ℕ) (l : List ℕ) (e : ℕ) → Rising b l → e ≤ b → rank l e ≡ 0
+rank-none b [] e r h = refl
+rank-none b (x ∷ l) e r h =
+    ap (λ (c : Bool). length (consIf c x (keep (λ m. ltb m e) l))) (le-ltb x e (omega (arith, r .0))) ∙ rank-none (suc x) l e (r .1) (omega (arith, r .0))
+
+member-le : (b : ℕ) (l : List ℕ) {e : ℕ} → Rising b l → In e l → b ≤ e
+member-le b (x ∷ l) r (here q) = omega (arith, r .0)
+member-le b (x ∷ l) r (there i) = omega (arith, r .0, member-le (suc x) l (r .1) i)
+
+rank-place : (b : ℕ) (l : List ℕ) {e : ℕ} → Rising b l → In e l → getD l (rank l e) 0 ≡ e
+rank-place b (x ∷ l) {e} r (here q) =
+    ap (λ (n : ℕ). getD (x ∷ l) n 0) (ap (λ (c : Bool). length (consIf c x (keep (λ m. ltb m e) l))) (le-ltb x e (omega arith)) ∙ rank-none (suc x) l e (r .1) (omega arith)) ∙ sym q
+rank-place b (x ∷ l) {e} r (there i) =
+    ap (λ (n : ℕ). getD (x ∷ l) n 0) (ap (λ (c : Bool). length (consIf c x (keep (λ m. ltb m e) l))) (lt-ltb x e (omega (arith, member-le (suc x) l (r .1) i))))
+    ∙ rank-place (suc x) l (r .1) i
+
+back : {A : Type 0} (f : A → A) (l : List A) → ((a : A) → In a l → f a ≡ a) → map f l ≡ l
+back f [] h = refl
+back f (x ∷ l) h = λ i. h x (here refl) i ∷ back f l (λ a j. h a (there j)) i
+
+module _ (L : Lattice) (sized : Sized (L .size)) (start : ℕ) (inside : start < cubes (L .size)) where
+  abbrev S : Sheet
+  S = sheetOf L start
+
+  below : (t : Tri) → In t (S .triangles) → Below (length (S .edges)) t
+  unfolding sheetOf numbered
+  below t i =
+      let m = map-in (numbered (S .edges)) (S .byEdge) t i in
+      let c = corners L sized start inside (m .0) (m .1) in
+      subst (Below (length (S .edges))) (sym (m .2))
+      (record { a = rank-lt (S .edges) (m .0 .a) (list-in (c .a)); b = rank-lt (S .edges) (m .0 .b) (list-in (c .b)); c = rank-lt (S .edges) (m .0 .c) (list-in (c .c)) })
+
+  -- a triangle by vertex numbers, named by their edges, is the triangle by edges
+  named-back : map (named (λ i. getD (S .edges) i 0)) (S .triangles) ≡ S .byEdge
+  unfolding sheetOf numbered named
+  named-back =
+      map-map (named (λ i. getD (S .edges) i 0)) (numbered (S .edges)) (S .byEdge)
+      ∙ back (λ t. named (λ i. getD (S .edges) i 0) (numbered (S .edges) t)) (S .byEdge)
+      (λ t i.
+      let c = corners L sized start inside t i in
+      λ j. tri (rank-place 0 (S .edges) (edges-rise L sized start inside) (c .a) j) (rank-place 0 (S .edges) (edges-rise L sized start inside) (c .b) j) (rank-place 0 (S .edges) (edges-rise L sized start inside) (c .c) j))
+
+  pub demand : Demand3 L start (S .edges) (S .triangles)
+  demand =
+      let u = rising-unique 0 (S .edges) (edges-rise L sized start inside) in
+      record {
+        vertices = one-vertex L sized start inside;
+        numbers = times-below (S .edges) u (S .triangles) below;
+        pairs = by-number (S .edges) u (S .triangles) below (subst (Paired (outer (L .size))) (sym named-back) (by-edge L sized start inside));
+      }

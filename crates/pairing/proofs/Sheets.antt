@@ -1,0 +1,122 @@
+-- Demand 3 of a sheet's triangles by lattice edges: of any cubes that may be visited, and of those of a lattice. Assumes nothing.
+use mathlib.Core.Path.{_≡_, sym, ap, _∙_, subst}
+use mathlib.Core.Bool.{Bool, false, cond, _&&_}
+use mathlib.Core.List.{List, [], map, List·Memᴰ as In, List·Memᴰ·tail as there, Memᴰ·cast}
+use Prim.Native.Nat.{ℕ, _<_}
+use native.Mathlib.Omega.{arith}
+use lib.Dec.{T, eqb, eqb-refl}
+use Rattle.lists.specs.Lists.{range, consIf, keep, each, isIn}
+use Rattle.lists.specs.Reach.{here as arrived, step, reached}
+use Rattle.lists.proofs.Member.{T→eq, or-left, both3, any-each}
+use Rattle.lists.proofs.Rising.{keep-rising}
+use Rattle.lists.proofs.Closure.{sound, complete, closed, marks-are}
+use Rattle.paper.specs.declared.Sizes.{Sizes}
+use Rattle.paper.specs.declared.Place.{Place}
+use Rattle.paper.specs.Lattice.{Lattice, airAt, cubes, cubeNo, cubeAt, corner, mixed, mixedAt, inLattice, Face, faces, stepOver, steps, visited}
+use Rattle.paper.specs.Within.{Sized, CubeIn}
+use Rattle.paper.specs.Tables.{Tri}
+use Rattle.paper.specs.Sheet.{rowAt, cubeTriangles, sheetOf}
+use Rattle.paper.proofs.Numbers.{cube-place, cube-inside, cube-back}
+use Rattle.paper.proofs.Visits.{in-lattice, lattice-in, step-lt, visited-lt}
+use Rattle.pairing.specs.Pairing.{times, outer, Paired}
+use Rattle.pairing.specs.Visitable.{trianglesAt, unshared}
+use Rattle.pairing.proofs.Count.{list-in, in-list, any-at, each-map, map-in, in-map, map-unique, rising-unique, Unique}
+use Rattle.pairing.proofs.Table.{flat}
+use Rattle.pairing.proofs.Whole.{Spread, Settled, times-are, settled, lone}
+use Rattle.pairing.proofs.Outer.{unshared-is, outer-is}
+
+-- ── any cubes that may be visited ──
+module _ (z : Sizes) (air may : Place → Bool) (within : (p : Place) → T (may p) → CubeIn z p) (vs : List Place) (sp : Spread air may vs) where
+  abbrev sheet : List Tri
+  sheet = each (trianglesAt z air) vs
+
+  settle : (e f : ℕ) → 0 < times sheet e f → Settled z air may within vs sp e f
+  settle e f h = settled z air may within vs sp e f (λ y. omega (arith, times-are z air may within vs sp e f, y))
+
+  pub paired-where : (apart : ℕ → ℕ → Bool) → ((e f : ℕ) (s : Settled z air may within vs sp e f) → apart e f ≡ lone may (flat (s .u) (s .w)) (s .m)) → Paired apart sheet
+  paired-where apart h = record {
+    once = λ e f n. times-are z air may within vs sp e f ∙ settle e f n .once;
+    reverse = λ e f n. times-are z air may within vs sp f e ∙ settle e f n .reverse ∙ sym (ap (λ (b : Bool). cond {A = ℕ} b 0 1) (h e f (settle e f n)));
+  }
+
+  -- the reverse of a directed edge is missing just where both edges lie in a face that two visitable cubes do not share
+  pub paired-unshared : Paired (unshared z may) sheet
+  paired-unshared = paired-where (unshared z may) (λ e f s. unshared-is z air (s .known) may)
+
+-- ── the cubes of a lattice ──
+
+module _ (L : Lattice) (sized : Sized (L .size)) (start : ℕ) (inside : start < cubes (L .size)) where
+  abbrev z : Sizes
+  z = L .size
+
+  seen : (k : ℕ) → In k (visited L start) → k < cubes z
+  seen k i = visited-lt L start k (list-in i)
+
+  bounded : (i j : ℕ) → i < cubes z → T (isIn (steps L i) j) → j < cubes z
+  bounded i j g = step-lt L i j
+
+  -- the visited cubes rise
+  visited-kept : visited L start ≡ keep (isIn (visited L start)) (range 0 (cubes z))
+  unfolding visited
+  visited-kept =
+      let n = cubes z in
+      marks-are (steps L) n bounded start inside (isIn (reached (steps L) n start)) (complete (steps L) n bounded start inside arrived)
+      (λ k h t. sound (steps L) n start k t) (λ j k h t s. closed (steps L) n start inside j k t s (step-lt L j k s))
+
+  visited-unique : Unique (visited L start)
+  visited-unique =
+      subst Unique (sym visited-kept)
+      (rising-unique 0 (keep (isIn (visited L start)) (range 0 (cubes z))) (keep-rising (isIn (visited L start)) 0 (cubes z)))
+
+  abbrev places : List Place
+  places = map (cubeAt z) (visited L start)
+
+  step-in : (n : ℕ) (f : Face) → In f (faces (cubeAt z n)) → T (f .there) → T (mixed (map (λ c. airAt L (corner (cubeAt z n) c)) (f .corners)))
+      → T (inLattice z (f .beyond)) → T (isIn (steps L n) (cubeNo z (f .beyond)))
+  unfolding steps stepOver mixedAt
+  step-in n f i h t k =
+      let p = cubeAt z n in
+      let q = cubeNo z (f .beyond) in
+      let b = f .there && inLattice z (f .beyond) && mixedAt L p (f .corners) in
+      subst T (sym (any-each (eqb q) (stepOver L p) (faces p)))
+      (any-at (λ g. isIn (stepOver L p g) q) i
+      (subst (λ (c : Bool). T (isIn (consIf c q []) q))
+      (sym (T→eq b (both3 (f .there) (inLattice z (f .beyond)) (mixedAt L p (f .corners)) h k t))) (or-left (eqb q q) false (eqb-refl q))))
+
+  visited-step : (n k : ℕ) → In n (visited L start) → T (isIn (steps L n) k) → In k (visited L start)
+  unfolding visited
+  visited-step n k i t =
+      in-list k (visited L start) (closed (steps L) (cubes z) start inside n k (list-in i) t (step-lt L n k t))
+
+  -- they are as the general theorem asks
+  spread : Spread (airAt L) (inLattice z) places
+  spread = record {
+    distinct =
+        map-unique (cubeAt z)
+        (λ a b i j e. sym (cube-back z sized a (seen a i)) ∙ ap (cubeNo z) e ∙ cube-back z sized b (seen b j)) visited-unique;
+    inside = λ p i. lattice-in z p (cube p i);
+    step = over;
+  }
+    where
+      cube : (p : Place) → In p places → CubeIn z p
+      cube p i = let m = map-in (cubeAt z) (visited L start) p i in subst (CubeIn z) (sym (m .2)) (cube-inside z sized (m .0) (seen (m .0) (m .1)))
+
+      over : (p : Place) (f : Face) → In p places → In f (faces p) → T (f .there) → T (mixed (map (λ c. airAt L (corner p c)) (f .corners))) → T (inLattice z (f .beyond))
+          → In (f .beyond) places
+      over p f i j h t k =
+          let m = map-in (cubeAt z) (visited L start) p i in
+          let n = m .0 in
+          let e : p ≡ cubeAt z n = m .2 in
+          let c = in-lattice z (f .beyond) k in
+          let g = step-in n f (subst (λ (q : Place). In f (faces q)) e j) h (subst (λ (q : Place). T (mixed (map (λ c. airAt L (corner q c)) (f .corners)))) e t) k in
+          Memᴰ·cast (sym (cube-place z (f .beyond) (omega (arith, c .x)) (omega (arith, c .y)))) (in-map (cubeAt z) (visited-step n (cubeNo z (f .beyond)) (m .1) g))
+
+  triangles-are : sheetOf L start .byEdge ≡ each (trianglesAt z (airAt L)) places
+  unfolding sheetOf cubeTriangles rowAt trianglesAt
+  triangles-are = sym (each-map (trianglesAt z (airAt L)) (cubeAt z) (visited L start))
+
+  -- document 01's sheet, by lattice edges
+  pub by-edge : Paired (outer z) (sheetOf L start .byEdge)
+  by-edge =
+      subst (Paired (outer z)) (sym triangles-are)
+      (paired-where z (airAt L) (inLattice z) (in-lattice z) places spread (outer z) (λ e f s. outer-is z (airAt L) (s .known) (s .near)))
