@@ -2,3 +2,4 @@
 pub mod Worked
 pub mod Numbers
 pub mod Visits
+pub mod Judged
