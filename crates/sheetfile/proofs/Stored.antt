@@ -15,9 +15,9 @@ use Rattle.paper.specs.declared.Sizes.{Sizes}
 use Rattle.paper.specs.File.{contentOf, fileBytes, trailerBytes, limits}
 use Rattle.codec.specs.Words.{wordBytes}
 use Rattle.codec.proofs.Runs.{sets-more, sets-over, each-length}
-use Rattle.sheetfile.specs.Laid.{countBytes, sizeBytes, Writable}
+use Rattle.sheetfile.specs.Taken.{countBytes, sizeBytes, Writable}
 use Rattle.paper.proofs.Judged.{both}
-use Rattle.sheetfile.proofs.Trailer.{in-limits}
+use Rattle.layout.proofs.Trailer.{in-limits}
 
 -- one list stored after another
 pub next : (l : List ℕ) {l₁ l₂ : List ℕ} (at to : ℕ) (a b : List ℕ) → at + length a ≡ to → l₁ ≡ sets l at a → l₂ ≡ sets l₁ to b → l₂ ≡ sets l at (a ++ b)
@@ -46,6 +46,22 @@ counted nv nt vertices triangles e =
       room-t = omega (arith, leb-true nt (triangles / 3) (r .1));
     }
 
+-- the two halves of a trailer
+counts-long : (nv nt : ℕ) → length (countBytes nv nt) ≡ 16
+unfolding countBytes
+counts-long nv nt = refl
+
+sizes-long : (z : Sizes) → length (sizeBytes z) ≡ 8
+unfolding sizeBytes
+sizes-long z = refl
+
+halves : (z : Sizes) (nv nt : ℕ) → countBytes nv nt ++ sizeBytes z ≡ trailerBytes z nv nt
+unfolding countBytes sizeBytes trailerBytes
+halves z nv nt = refl
+
+trailer-long : (z : Sizes) (nv nt : ℕ) → length (trailerBytes z nv nt) ≡ 24
+trailer-long z nv nt = ap length (sym (halves z nv nt)) ∙ (length-append (countBytes nv nt) (sizeBytes z) ∙ omega (arith, counts-long nv nt, sizes-long z))
+
 -- the whole file, part by part
 module _ (z : Sizes) (nv nt : ℕ) (vs : List ℤ) (ts : List ℕ) (room : Writable nv nt (length vs) (length ts)) where
   pub vertices-long : length (each wordBytes (take (4 * nv) vs)) ≡ 16 * nv
@@ -54,16 +70,27 @@ module _ (z : Sizes) (nv nt : ℕ) (vs : List ℤ) (ts : List ℕ) (room : Writa
   pub triangles-long : length (each (le 4) (take (3 * nt) ts)) ≡ 12 * nt
   triangles-long = omega (arith, each-length (le 4) 4 (λ n. refl) (take (3 * nt) ts), length-take-le (3 * nt) ts (room .room-t))
 
+  parts-long : (x y t : List ℕ) → length x ≡ 16 * nv → length y ≡ 12 * nt → length t ≡ 24 → length (x ++ y ++ t) ≡ 16 * nv + 12 * nt + 24
+  parts-long x y t ex ey et = omega (arith, length-append (x ++ y) t, length-append x y)
+
+  whole : each wordBytes (take (4 * nv) vs) ++ each (le 4) (take (3 * nt) ts) ++ trailerBytes z nv nt ≡ fileBytes (contentOf z nv nt vs ts)
+  unfolding fileBytes
+  whole = refl
+
   pub file-long : length (fileBytes (contentOf z nv nt vs ts)) ≡ 16 * nv + 12 * nt + 24
-  unfolding fileBytes trailerBytes
   file-long =
-      omega (
-        arith,
-        length-append (each wordBytes (take (4 * nv) vs) ++ each (le 4) (take (3 * nt) ts)) (trailerBytes z nv nt),
-        length-append (each wordBytes (take (4 * nv) vs)) (each (le 4) (take (3 * nt) ts)),
-        vertices-long,
-        triangles-long,
-      )
+      ap length (sym whole)
+      ∙ parts-long (each wordBytes (take (4 * nv) vs)) (each (le 4) (take (3 * nt) ts)) (trailerBytes z nv nt) vertices-long triangles-long (trailer-long z nv nt)
+
+  parts-stored : (l : List ℕ) {l₁ l₂ l₃ l₄ : List ℕ} (x y c s : List ℕ) → length x ≡ 16 * nv → length y ≡ 12 * nt → length c ≡ 16
+      → l₁ ≡ sets l 0 x → l₂ ≡ sets l₁ (16 * nv) y → l₃ ≡ sets l₂ (16 * nv + 12 * nt) c → l₄ ≡ sets l₃ (16 * nv + 12 * nt + 16) s
+      → l₄ ≡ sets l 0 (x ++ y ++ (c ++ s))
+  parts-stored l x y c s ex ey ec e₁ e₂ e₃ e₄ =
+      let n = length-append x y in
+      let m = length-append (x ++ y) c in
+      next l 0 (16 * nv + 12 * nt + 16) (x ++ y ++ c) s (omega arith)
+      (next l 0 (16 * nv + 12 * nt) (x ++ y) c (omega arith) (next l 0 (16 * nv) x y (omega arith) e₁ e₂) e₃) e₄
+      ∙ ap (sets l 0) (append-assoc (x ++ y) c s)
 
   pub file-stored : (l : List ℕ) {l₁ l₂ l₃ l₄ : List ℕ} → 16 * nv + 12 * nt + 24 ≤ length l
       → l₁ ≡ sets l 0 (each wordBytes (take (4 * nv) vs))
@@ -71,13 +98,9 @@ module _ (z : Sizes) (nv nt : ℕ) (vs : List ℤ) (ts : List ℕ) (room : Writa
       → l₃ ≡ sets l₂ (16 * nv + 12 * nt) (countBytes nv nt)
       → l₄ ≡ sets l₃ (16 * nv + 12 * nt + 16) (sizeBytes z)
       → l₄ ≡ over (fileBytes (contentOf z nv nt vs ts)) l
-  unfolding fileBytes trailerBytes countBytes sizeBytes
   file-stored l h e₁ e₂ e₃ e₄ =
       let x = each wordBytes (take (4 * nv) vs) in
       let y = each (le 4) (take (3 * nt) ts) in
-      let two = next l 0 (16 * nv) x y (omega (arith, vertices-long)) e₁ e₂ in
-      let n = length-append x y in
-      let three = next l 0 (16 * nv + 12 * nt) (x ++ y) (countBytes nv nt) (omega (arith, n, vertices-long, triangles-long)) two e₃ in
-      let m = length-append (x ++ y) (countBytes nv nt) in
-      let all = next l 0 (16 * nv + 12 * nt + 16) (x ++ y ++ countBytes nv nt) (sizeBytes z) (omega (arith, m, n, vertices-long, triangles-long)) three e₄ in
-      all ∙ (ap (sets l 0) (append-assoc (x ++ y) (countBytes nv nt) (sizeBytes z)) ∙ sets-over l (fileBytes (contentOf z nv nt vs ts)) (omega (arith, file-long)))
+      parts-stored l x y (countBytes nv nt) (sizeBytes z) vertices-long triangles-long (counts-long nv nt) e₁ e₂ e₃ e₄
+      ∙ (ap (λ (t : List ℕ). sets l 0 (x ++ y ++ t)) (halves z nv nt)
+      ∙ (ap (sets l 0) whole ∙ sets-over l (fileBytes (contentOf z nv nt vs ts)) (omega (arith, file-long))))

@@ -1,2 +1,2 @@
 -- What the contracts cite.
-pub mod Laid
+pub mod Taken

@@ -4,7 +4,7 @@ use Rattle.sheetfile.proofs.counts_fit.Statement.{statement}
 use Rattle.sheetfile.proofs.counts_fit.Tie as tie
 use Rattle.sheetfile.proofs.counts_fit.Reads as reads
 use Rattle.sheetfile.proofs.counts_fit.Lts as lts
-use Rattle.sheetfile.proofs.within_limits.Reads as within-limits-reads
+use Rattle.layout.proofs.within_limits.Reads as within-limits-reads
 
 -- src/lib.rt:207:9
 returns : tie.Need-returns

@@ -5,12 +5,12 @@ use native.Mathlib.Omega.{arith}
 use borrow.Author.Count.{below-none, below-more}
 use denote.Ref.{now}
 use Rattle.paper.specs.File.{badTriangle}
-use Rattle.sheetfile.proofs.Trailer.{bad-is, first-found, first-missing}
+use Rattle.layout.proofs.Trailer.{bad-is, first-found, first-missing}
 use Rattle.sheetfile.proofs.first_bad.Statement.{statement}
 use Rattle.sheetfile.proofs.first_bad.Tie as tie
 use Rattle.sheetfile.proofs.first_bad.Reads as reads
 use Rattle.sheetfile.proofs.first_bad.Lts as lts
-use Rattle.sheetfile.proofs.any_from.Reads as any-from-reads
+use Rattle.layout.proofs.any_from.Reads as any-from-reads
 
 abbrev Inv-loop : tie.InvT-loop
 Inv-loop nv nt triangles i₀ i = (i ≤ nt) × ((k : ℕ) → k < i → badTriangle nv triangles k ≡ false)

@@ -2,7 +2,7 @@ use mathlib.Core.Path.{_≡_, refl, sym, ap, _∙_}
 use denote.Ref.{now}
 use Prim.Native.Nat.{_+_, _*_}
 use Rattle.lists.specs.Bytes.{le}
-use Rattle.sheetfile.specs.Laid.{sizeBytes}
+use Rattle.sheetfile.specs.Taken.{sizeBytes}
 use Rattle.sheetfile.proofs.Stored.{four}
 use borrow.Author.Needs.{needs}
 use Rattle.sheetfile.proofs.put_sizes.Statement.{statement}

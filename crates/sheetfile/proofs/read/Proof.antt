@@ -3,7 +3,7 @@ use Prim.Native.Nat.{_≤_, _<_}
 use native.Mathlib.Omega.{arith}
 use denote.Ref.{now}
 use lib.ListN.{length}
-use Rattle.sheetfile.specs.Laid.{Room}
+use Rattle.sheetfile.specs.Taken.{Room}
 use Rattle.sheetfile.proofs.Answers.{readable-laid, read-refused, read-done}
 use borrow.Author.Needs.{needs}
 use Rattle.sheetfile.proofs.read.Statement.{statement}
@@ -13,9 +13,9 @@ use Rattle.sheetfile.proofs.read.Lts as lts
 use Rattle.codec.proofs.get_i32s.Reads as get-i32s-reads
 use Rattle.codec.proofs.get_u32s.Reads as get-u32s-reads
 use Rattle.sheetfile.proofs.readable.Reads as readable-reads
-use Rattle.sheetfile.proofs.sizes_of.Reads as sizes-of-reads
-use Rattle.sheetfile.proofs.triangle_count.Reads as triangle-count-reads
-use Rattle.sheetfile.proofs.vertex_count.Reads as vertex-count-reads
+use Rattle.layout.proofs.sizes_of.Reads as sizes-of-reads
+use Rattle.layout.proofs.triangle_count.Reads as triangle-count-reads
+use Rattle.layout.proofs.vertex_count.Reads as vertex-count-reads
 
 -- all tests were passed
 room : (c : tie.Else1) → Room (now (c .before .before .before .before .before .args .bytes)) (length (now (c .before .before .before .before .before .args .vertices))) (length (now (c .before .before .before .before .before .args .triangles)))

@@ -8,15 +8,15 @@ use Rattle.paper.specs.declared.Verdict.{Verdict}
 use Rattle.paper.specs.Tests.{judge}
 use Rattle.paper.specs.File.{fileV, fileT, fileTests}
 use Rattle.paper.proofs.Judged.{judge-past, judge-stop}
-use Rattle.sheetfile.proofs.Answers.{file-numbered, laid-out}
+use Rattle.layout.proofs.Passing.{file-numbered, laid-out}
 use borrow.Author.Needs.{needs}
 use Rattle.sheetfile.proofs.readable.Statement.{statement}
 use Rattle.sheetfile.proofs.readable.Tie as tie
 use Rattle.sheetfile.proofs.readable.Reads as reads
 use Rattle.sheetfile.proofs.readable.Lts as lts
-use Rattle.sheetfile.proofs.tested.Reads as tested-reads
-use Rattle.sheetfile.proofs.triangle_count.Reads as triangle-count-reads
-use Rattle.sheetfile.proofs.vertex_count.Reads as vertex-count-reads
+use Rattle.layout.proofs.tested.Reads as tested-reads
+use Rattle.layout.proofs.triangle_count.Reads as triangle-count-reads
+use Rattle.layout.proofs.vertex_count.Reads as vertex-count-reads
 
 -- the file's own tests were passed
 passed : (c : tie.Else1) → judge (fileTests (now (c .before .before .before .before .args .bytes))) .number ≡ 0

@@ -9,15 +9,15 @@ use lib.ListN.{length}
 use Rattle.paper.specs.Lattice.{axes}
 use Rattle.paper.specs.Tests.{verdict}
 use Rattle.paper.specs.File.{limits, firstBad, trailerAt, fileLength, writeVerdict}
-use Rattle.sheetfile.specs.Laid.{Writable}
-use Rattle.sheetfile.proofs.Flags.{fails, passes}
+use Rattle.sheetfile.specs.Taken.{Writable}
+use Rattle.layout.proofs.Flags.{fails, passes}
 use Rattle.sheetfile.proofs.Stored.{counted}
 use borrow.Author.Needs.{needs}
 use Rattle.sheetfile.proofs.writable.Statement.{statement}
 use Rattle.sheetfile.proofs.writable.Tie as tie
 use Rattle.sheetfile.proofs.writable.Reads as reads
 use Rattle.sheetfile.proofs.writable.Lts as lts
-use Rattle.sheetfile.proofs.axes_fit.Reads as axes-fit-reads
+use Rattle.layout.proofs.axes_fit.Reads as axes-fit-reads
 use Rattle.sheetfile.proofs.counts_fit.Reads as counts-fit-reads
 use Rattle.sheetfile.proofs.first_bad.Reads as first-bad-reads
 

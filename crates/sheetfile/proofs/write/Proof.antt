@@ -3,7 +3,7 @@ use native.Mathlib.Omega.{arith}
 use denote.Ref.{now}
 use lib.ListN.{length}
 use Rattle.paper.specs.declared.Verdict.{Verdict}
-use Rattle.sheetfile.specs.Laid.{Taken}
+use Rattle.sheetfile.specs.Taken.{Taken}
 use Rattle.sheetfile.proofs.Answers.{taken, write-refused, write-done}
 use borrow.Author.Needs.{needs}
 use Rattle.sheetfile.proofs.write.Statement.{statement}
