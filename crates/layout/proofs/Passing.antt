@@ -10,10 +10,10 @@ use lib.Dec.{T, leb, eqb}
 use lib.ListN.{getD}
 use Rattle.lists.specs.Lists.{range, first}
 use Rattle.paper.specs.Tests.{judge}
-use Rattle.paper.specs.File.{badTriangle, firstBad, fileV, fileT, fileSizes, fileTriangles, fileTests}
+use Rattle.paper.specs.File.{badTriangle, firstBad, trailer, fileV, fileT, fileSizes, fileTriangles, fileTests}
 use Rattle.paper.proofs.Judged.{Numbered, Passed, judge-all, sized}
 use Rattle.layout.specs.Laid.{anyFrom, LaidOut}
-use Rattle.layout.proofs.Trailer.{bad-is, ranged}
+use Rattle.layout.proofs.Trailer.{bad-is, first-missing, ranged}
 
 -- ── 15 ──
 
@@ -67,6 +67,15 @@ module _ (nv nt : ℕ) (ts : List ℕ) (none : firstBad nv nt ts ≡ nt) where
   pub index-below : (i : ℕ) → i < 3 * nt → getD ts i 0 < nv
   index-below i h = corner (i / 3) (i % 3) i (omega arith) (omega arith) (omega arith)
 
+-- the indices settle it
+pub first-same : (nv nt : ℕ) (ts us : List ℕ) → ((i : ℕ) → i < 3 * nt → getD us i 0 ≡ getD ts i 0) → firstBad nv nt ts ≡ nt → firstBad nv nt us ≡ nt
+first-same nv nt ts us same none =
+    sym
+    (first-missing nv nt us
+    (λ k h.
+    bad-is nv us k
+    ∙ (rw (same (3 * k) (omega arith), same (3 * k + 1) (omega arith), same (3 * k + 2) (omega arith)) (sym (bad-is nv ts k)) ∙ none-bad nv nt ts none k h)))
+
 -- ── a file that passes its tests ──
 
 pub file-numbered : (bs : List ℕ) → Numbered (fileTests bs)
@@ -76,10 +85,13 @@ file-numbered bs = (omega arith, (omega arith, (omega arith, (omega arith, (omeg
 pub passed-laid : (bs : List ℕ) → Passed (fileTests bs) → LaidOut bs
 unfolding fileTests
 passed-laid bs a =
+    let none : firstBad (fileV bs) (fileT bs) (fileTriangles bs) ≡ fileT bs = eqb-true _ _ (a .1 .1 .1 .1 .0) in
     record {
+      marked = eqb-true (trailer 2 bs 22) 21331 (a .1 .0);
       ranged = ranged bs (a .1 .1 .1 .0);
       sized = sized (fileSizes bs) (a .1 .1 .0);
-      below = index-below (fileV bs) (fileT bs) (fileTriangles bs) (eqb-true _ _ (a .1 .1 .1 .1 .0));
+      good = none;
+      below = index-below (fileV bs) (fileT bs) (fileTriangles bs) none;
     }
 
 pub laid-out : (bs : List ℕ) → judge (fileTests bs) .number ≡ 0 → LaidOut bs

@@ -76,5 +76,13 @@ ranged bs e =
     let a = eqb (trailer 4 bs 0) front in
     let b = eqb (trailer 4 bs 8) (12 * nt) in
     let t = both (l && a && b) (eqb (length bs) (front + 24)) (sym (laid-is bs nv nt _ _ refl refl refl refl) ∙ e) in
-    let k = in-limits nv nt (both l a (both (l && a) b (t .0) .0) .0) in
-    record { most-v = k .0; most-t = k .1; long = eqb-true (length bs) (front + 24) (t .1) }
+    let r = both (l && a) b (t .0) in
+    let q = both l a (r .0) in
+    let k = in-limits nv nt (q .0) in
+    record {
+      most-v = k .0;
+      most-t = k .1;
+      to-vertices = eqb-true (trailer 4 bs 0) front (q .1);
+      to-triangles = eqb-true (trailer 4 bs 8) (12 * nt) (r .1);
+      long = eqb-true (length bs) (front + 24) (t .1);
+    }

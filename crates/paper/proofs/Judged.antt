@@ -4,7 +4,7 @@ use mathlib.Core.Bool.{Bool, true, false, cond, _&&_}
 use mathlib.Core.List.{List, [], _∷_, _++_}
 use Prim.Native.Nat.{ℕ, _<_}
 use native.Mathlib.Omega.{arith}
-use borrow.Author.Tests.{leb-true}
+use borrow.Author.Tests.{le-leb, leb-true}
 use lib.Dec.{T, leb}
 use Rattle.paper.specs.declared.Sizes.{Sizes}
 use Rattle.paper.specs.declared.Verdict.{Verdict}
@@ -50,6 +50,10 @@ judge-all (t ∷ ts) h e =
     let p = judge-first t ts (h .0) e in
     (p .0, judge-all ts (h .1) (p .1))
 
+pub passed-judge : (l : List Test) → Passed l → judge l ≡ verdict 0 0
+passed-judge [] p = refl
+passed-judge (t ∷ ts) p = rw (p .0) (passed-judge ts (p .1))
+
 -- further tests count where all of the first are passed
 pub judge-past : (l m : List Test) → Numbered l → judge l .number ≡ 0 → judge (l ++ m) ≡ judge m
 judge-past [] m h e = refl
@@ -69,10 +73,7 @@ judge-stop (t ∷ ts) m h = go (t .passed) h (λ k. judge-stop ts m k)
 
 -- the number 0 has the place 0
 pub judge-none : (l : List Test) → Numbered l → judge l .number ≡ 0 → judge l ≡ verdict 0 0
-judge-none [] h e = refl
-judge-none (t ∷ ts) h e =
-    let p = judge-first t ts (h .0) e in
-    rw (p .0) (judge-none ts (h .1) (p .1))
+judge-none l h e = passed-judge l (judge-all l h e)
 
 -- test 1
 pub sized : (z : Sizes) → axes z ≡ true → Sized z
@@ -91,3 +92,15 @@ sized z e =
       z-low = leb-true 2 (z .nz) (w .0);
       z-high = leb-true (z .nz) 64 (w .1);
     }
+
+pub sized-axes : (z : Sizes) → Sized z → axes z ≡ true
+unfolding axes axis
+sized-axes z s =
+    rw (
+      le-leb 2 (z .nx) (s .x-low),
+      le-leb (z .nx) 64 (s .x-high),
+      le-leb 2 (z .ny) (s .y-low),
+      le-leb (z .ny) 64 (s .y-high),
+      le-leb 2 (z .nz) (s .z-low),
+      le-leb (z .nz) 64 (s .z-high),
+    )

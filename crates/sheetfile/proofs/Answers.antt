@@ -4,7 +4,7 @@ use mathlib.Core.Bool.{_&&_}
 use mathlib.Core.List.{List, [], _∷_, _++_, map}
 use Prim.Native.Nat.{ℕ, _+_, _*_, _/_, _≤_}
 use native.Mathlib.Omega.{arith}
-use borrow.Author.Tests.{leb-true, eqb-true, ne-eqb}
+use borrow.Author.Tests.{le-leb, leb-true, eq-eqb, eqb-true, ne-eqb}
 use lib.Dec.{leb, eqb}
 use lib.IntN.{ℤ}
 use lib.ListN.{length}
@@ -16,7 +16,7 @@ use Rattle.paper.specs.Lattice.{axes}
 use Rattle.paper.specs.Tests.{Test, test, judge, verdict}
 use Rattle.paper.specs.Build.{outputAfter}
 use Rattle.paper.specs.File.{signed32, contentOf, trailerAt, fileLength, fileBytes, firstBad, indexTest, limits, writeVerdict, wrote, Writes, fileV, fileT, fileSizes, fileVertices, fileTriangles, fileTests, readVerdict, got, Reads}
-use Rattle.paper.proofs.Judged.{Numbered, Passed, numbered-both, passed-both, judge-all, judge-none, sized}
+use Rattle.paper.proofs.Judged.{Numbered, Passed, numbered-both, passed-both, judge-all, judge-none, passed-judge, sized, sized-axes}
 use Rattle.codec.proofs.Runs.{sets-over, wordAt}
 use Rattle.layout.proofs.Trailer.{vertices-are, triangles-are, vertices-length, triangles-length}
 use Rattle.layout.proofs.Passing.{file-numbered, passed-laid}
@@ -51,6 +51,21 @@ module _ (z : Sizes) (nv nt : ℕ) (vs : List ℤ) (ts : List ℕ) where
         roomy = leb-true (16 * nv + 12 * nt + 24) room (a .1 .1 .1 .0);
       }
 
+  pub taken-verdict : (room : ℕ) → Taken z nv nt vs ts room → writeVerdict z nv nt vs ts room ≡ verdict 0 0
+  unfolding limits
+  taken-verdict room t =
+      let c = t .counts in
+      write-tests room
+      ∙ rw (
+        sized-axes z (t .sized),
+        le-leb nv (length vs / 4) (omega (arith, c .room-v)),
+        le-leb nt (length ts / 3) (omega (arith, c .room-t)),
+        le-leb nv 2000000 (c .most-v),
+        le-leb nt 4000000 (c .most-t),
+        eq-eqb (firstBad nv nt ts) nt (t .good),
+        le-leb (16 * nv + 12 * nt + 24) room (t .roomy),
+      )
+
   module _ (before : List ℕ) (v : Verdict) (is : v ≡ writeVerdict z nv nt vs ts (length before)) where
     pub write-refused : (v .number ≡ 0 → ⊥) → Writes z nv nt vs ts before (record { number = v .number; place = v .place; bytes = 0 }) before
     unfolding wrote outputAfter
@@ -72,7 +87,7 @@ abbrev roomTests : List ℕ → ℕ → ℕ → List Test
 roomTests bs rv rt = test 6 (leb (fileV bs) rv) ∷ test 7 (leb (fileT bs) rt) ∷ []
 
 module _ (bs : List ℕ) (vs : List ℤ) (ts : List ℕ) where
-  read-tests : readVerdict bs vs ts ≡ judge (fileTests bs ++ roomTests bs (length vs / 4) (length ts / 3))
+  pub read-tests : readVerdict bs vs ts ≡ judge (fileTests bs ++ roomTests bs (length vs / 4) (length ts / 3))
   unfolding readVerdict
   read-tests = refl
 
@@ -104,13 +119,23 @@ module _ (bs : List ℕ) (vs : List ℤ) (ts : List ℕ) where
             room-t = omega (arith, leb-true (fileT bs) (length ts / 3) (p .1 .1 .0));
           }
 
+      pub readable-passed : judge (fileTests bs) ≡ verdict 0 0
+      readable-passed =
+          passed-judge (fileTests bs)
+          (passed-both (fileTests bs) (roomTests bs (length vs / 4) (length ts / 3))
+          (judge-all (fileTests bs ++ roomTests bs (length vs / 4) (length ts / 3)) numbered zero-judge)
+          .0)
+
+      pub readable-none : readVerdict bs vs ts ≡ verdict 0 0
+      readable-none = read-tests ∙ judge-none (fileTests bs ++ roomTests bs (length vs / 4) (length ts / 3)) numbered zero-judge
+
       pub read-done : (nv nt : ℕ) (z : Sizes) (vs′ : List ℤ) (ts′ : List ℕ) → nv ≡ fileV bs → nt ≡ fileT bs → z ≡ fileSizes bs
           → vs′ ≡ sets vs 0 (map (wordAt signed32 4 bs 0) (range 0 (4 * nv)))
           → ts′ ≡ sets ts 0 (map (wordAt (λ (n : ℕ). n) 4 bs (16 * nv)) (range 0 (3 * nt)))
           → Reads bs vs ts (record { number = 0; place = 0; vertices = nv; triangles = nt; sizes = z }) vs′ ts′
       unfolding got outputAfter
       read-done nv nt z vs′ ts′ ev et ez a b =
-          let n : readVerdict bs vs ts ≡ verdict 0 0 = read-tests ∙ judge-none (fileTests bs ++ roomTests bs (length vs / 4) (length ts / 3)) numbered zero-judge in
+          let n = readable-none in
           let r = readable-laid in
           let v : sets vs 0 (fileVertices bs) ≡ over (fileVertices bs) vs = sets-over vs (fileVertices bs) (omega (arith, vertices-length bs, r .room-v)) in
           let t : sets ts 0 (fileTriangles bs) ≡ over (fileTriangles bs) ts = sets-over ts (fileTriangles bs) (omega (arith, triangles-length bs, r .room-t)) in

@@ -59,7 +59,7 @@ halves : (z : Sizes) (nv nt : ℕ) → countBytes nv nt ++ sizeBytes z ≡ trail
 unfolding countBytes sizeBytes trailerBytes
 halves z nv nt = refl
 
-trailer-long : (z : Sizes) (nv nt : ℕ) → length (trailerBytes z nv nt) ≡ 24
+pub trailer-long : (z : Sizes) (nv nt : ℕ) → length (trailerBytes z nv nt) ≡ 24
 trailer-long z nv nt = ap length (sym (halves z nv nt)) ∙ (length-append (countBytes nv nt) (sizeBytes z) ∙ omega (arith, counts-long nv nt, sizes-long z))
 
 -- the whole file, part by part
@@ -73,7 +73,7 @@ module _ (z : Sizes) (nv nt : ℕ) (vs : List ℤ) (ts : List ℕ) (room : Writa
   parts-long : (x y t : List ℕ) → length x ≡ 16 * nv → length y ≡ 12 * nt → length t ≡ 24 → length (x ++ y ++ t) ≡ 16 * nv + 12 * nt + 24
   parts-long x y t ex ey et = omega (arith, length-append (x ++ y) t, length-append x y)
 
-  whole : each wordBytes (take (4 * nv) vs) ++ each (le 4) (take (3 * nt) ts) ++ trailerBytes z nv nt ≡ fileBytes (contentOf z nv nt vs ts)
+  pub whole : each wordBytes (take (4 * nv) vs) ++ each (le 4) (take (3 * nt) ts) ++ trailerBytes z nv nt ≡ fileBytes (contentOf z nv nt vs ts)
   unfolding fileBytes
   whole = refl
 
