@@ -1,15 +1,15 @@
 -- What loops make that store numbers of one width one after another, or read them, and that each undoes the other. Assumes nothing.
-use mathlib.Core.Path.{_≡_, refl, sym, subst, ap, _∙_}
+use mathlib.Core.Path.{_≡_, sym, ap, _∙_}
 use mathlib.Core.List.{List, [], _∷_, _++_, map, append-assoc, append-nil}
 use Prim.Native.Nat.{ℕ, zero, suc, _+_, _-_, _*_, _<_, _≤_}
 use native.Mathlib.Omega.{arith}
 use native.Mathlib.Numerals.{add-one}
-use native.Mathlib.Nat.{zero-add, add-suc, suc-add}
+use native.Mathlib.Nat.{zero-add}
 use lib.ListN.{length, getD, take, drop, set, length-append, length-map}
 use lib.Seq.{sets, sets-eq, take-suc, length-take-le, take-add, take-at, drop-at, drop-drop, drop-append-add, ext-getD}
 use Rattle.lists.specs.Lists.{range, each, over}
 use Rattle.lists.specs.Bytes.{unle, field}
-use Rattle.lists.proofs.Runs.{range-snoc, each-append}
+use Rattle.lists.proofs.Runs.{each-append}
 use Rattle.lists.proofs.Closure.{length-range}
 
 module _ {A : Type 0} where

@@ -2,10 +2,10 @@
 use mathlib.Core.Path.{_≡_, refl, sym, ap, _∙_}
 use mathlib.Core.Bool.{_&&_}
 use mathlib.Core.List.{List, [], _∷_, _++_, map}
-use Prim.Native.Nat.{ℕ, _+_, _*_, _/_, _≤_}
+use Prim.Native.Nat.{ℕ, _+_, _*_, _/_}
 use native.Mathlib.Omega.{arith}
 use borrow.Author.Tests.{le-leb, leb-true, eq-eqb, eqb-true, ne-eqb}
-use lib.Dec.{leb, eqb}
+use lib.Dec.{leb}
 use lib.IntN.{ℤ}
 use lib.ListN.{length}
 use lib.Seq.{sets}

@@ -1,15 +1,14 @@
 -- What was read is written as it was: every byte of a file that passes its tests. Assumes nothing.
 use mathlib.Core.Path.{_≡_, refl, sym, ap, _∙_}
-use mathlib.Core.Bool.{Bool, true, false, _&&_}
-use mathlib.Core.List.{List, [], _∷_, _++_, map, append-assoc}
-use Prim.Native.Nat.{ℕ, _+_, _-_, _*_, _≤_, _<_}
+use mathlib.Core.List.{List, _++_}
+use Prim.Native.Nat.{ℕ, _+_, _-_, _*_, _≤_}
 use native.Mathlib.Omega.{arith}
 use lib.ListN.{length, take, drop, take-append-drop, length-drop}
 use lib.Seq.{take-add, take-all, drop-drop}
-use Rattle.lists.specs.Lists.{range, each}
+use Rattle.lists.specs.Lists.{each}
 use Rattle.lists.specs.Bytes.{le, field}
 use Rattle.paper.specs.Tests.{judge}
-use Rattle.paper.specs.File.{bits32, signed32, contentOf, trailerBytes, fileBytes, trailer, fileV, fileT, fileSizes, fileVertices, fileTriangles, fileTests}
+use Rattle.paper.specs.File.{signed32, contentOf, trailerBytes, fileBytes, trailer, fileV, fileT, fileSizes, fileVertices, fileTriangles, fileTests}
 use Rattle.codec.specs.Words.{wordBytes, Bytes}
 use Rattle.codec.proofs.Bytes.{le-field, field-lt}
 use Rattle.codec.proofs.Signed.{bits-signed}

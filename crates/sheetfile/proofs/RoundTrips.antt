@@ -1,22 +1,22 @@
 -- The round trips, said of the contracts: reading what was written, and writing what was read. Assumes nothing.
 use mathlib.Core.Path.{_≡_, refl, sym, subst, ap, _∙_}
 use mathlib.Core.Bool.{Bool, true, false, cond}
-use mathlib.Core.List.{List, [], _∷_, _++_}
-use Prim.Native.Nat.{ℕ, _+_, _*_, _/_, _≤_, _<_}
+use mathlib.Core.List.{List}
+use Prim.Native.Nat.{ℕ, _*_, _/_, _≤_}
 use native.Mathlib.Omega.{arith}
-use borrow.Author.Tests.{le-leb, eqb-true, eq-eqb}
+use borrow.Author.Tests.{le-leb, eqb-true}
 use lib.Dec.{eqb}
-use lib.IntN.{ℤ, pos}
-use lib.ListN.{length, getD, take, drop, length-append, List·getD-append}
+use lib.IntN.{ℤ}
+use lib.ListN.{length, take, drop, length-append, List·getD-append}
 use lib.Seq.{take-append-seam, take-append-le}
 use Rattle.lists.specs.Lists.{over}
 use Rattle.paper.specs.declared.Sizes.{Sizes}
 use Rattle.paper.specs.declared.Verdict.{Verdict}
 use Rattle.paper.specs.declared.Wrote.{Wrote}
 use Rattle.paper.specs.declared.Got.{Got}
-use Rattle.paper.specs.Tests.{verdict, judge}
+use Rattle.paper.specs.Tests.{verdict}
 use Rattle.paper.specs.Build.{vertexRoom, triangleRoom, outputAfter}
-use Rattle.paper.specs.File.{contentOf, trailerAt, fileLength, fileBytes, firstBad, writeVerdict, wrote, Writes, fileV, fileT, fileSizes, fileVertices, fileTriangles, fileTests, readVerdict, got, Reads}
+use Rattle.paper.specs.File.{contentOf, trailerAt, fileLength, fileBytes, writeVerdict, wrote, Writes, fileV, fileT, fileSizes, fileVertices, fileTriangles, fileTests, readVerdict, got, Reads}
 use Rattle.paper.proofs.Judged.{judge-past}
 use Rattle.codec.specs.Words.{Bytes, Words}
 use Rattle.layout.proofs.Trailer.{vertices-length, triangles-length}

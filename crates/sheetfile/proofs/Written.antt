@@ -1,11 +1,10 @@
 -- A file that was written is read as it was: the counts, the sizes, every record and every triangle. Assumes nothing.
-use mathlib.Core.Path.{_≡_, refl, sym, subst, ap, _∙_}
-use mathlib.Core.Bool.{Bool, true, false, _&&_}
-use mathlib.Core.List.{List, [], _∷_, _++_, map, append-assoc}
-use Prim.Native.Nat.{ℕ, _+_, _-_, _*_, _^_, _≤_, _<_}
+use mathlib.Core.Path.{_≡_, refl, sym, ap, _∙_}
+use mathlib.Core.Bool.{true}
+use mathlib.Core.List.{List, [], _++_, map, append-assoc}
+use Prim.Native.Nat.{ℕ, _+_, _-_, _*_, _<_}
 use native.Mathlib.Omega.{arith}
 use borrow.Author.Tests.{le-leb, eq-eqb}
-use lib.Dec.{leb, eqb}
 use lib.IntN.{ℤ, pos}
 use lib.ListN.{length, getD, take, drop, length-append}
 use lib.Seq.{drop-append-add, getD-take, length-take-le}
@@ -16,7 +15,7 @@ use Rattle.lists.specs.Bytes.{le, unle, field}
 use Rattle.paper.specs.declared.Sizes.{Sizes}
 use Rattle.paper.specs.Lattice.{axes}
 use Rattle.paper.specs.Tests.{verdict, judge}
-use Rattle.paper.specs.File.{bits32, signed32, contentOf, trailerBytes, fileBytes, badTriangle, firstBad, limits, writeVerdict, trailer, fileV, fileT, fileSizes, fileVertices, fileTriangles, laidOut, fileTests}
+use Rattle.paper.specs.File.{signed32, contentOf, trailerBytes, fileBytes, firstBad, limits, writeVerdict, trailer, fileV, fileT, fileSizes, fileVertices, fileTriangles, laidOut, fileTests}
 use Rattle.paper.proofs.Judged.{sized-axes}
 use Rattle.codec.specs.Words.{wordBytes, Words}
 use Rattle.codec.proofs.Bytes.{unle-le}
@@ -24,9 +23,9 @@ use Rattle.codec.proofs.Signed.{bits-small, signed-bits}
 use Rattle.codec.proofs.Runs.{wordAt, read-back}
 use Rattle.layout.proofs.Trailer.{vertices-are, triangles-are, laid-is}
 use Rattle.layout.proofs.Passing.{index-below, first-same}
-use Rattle.sheetfile.specs.Taken.{Writable, Taken}
+use Rattle.sheetfile.specs.Taken.{Taken}
 use Rattle.sheetfile.specs.Trips.{Holds}
-use Rattle.sheetfile.proofs.Stored.{trailer-long, vertices-long, triangles-long, file-long, whole}
+use Rattle.sheetfile.proofs.Stored.{trailer-long, vertices-long, file-long, whole}
 use Rattle.sheetfile.proofs.Answers.{taken}
 
 -- a number of the trailer, wherever the trailer stands

@@ -1,11 +1,11 @@
-use mathlib.Core.Path.{_≡_, refl, ap, _∙_}
-use Prim.Native.Nat.{ℕ, _-_, _%_}
+use mathlib.Core.Path.{_≡_}
+use Prim.Native.Nat.{_-_}
 use native.Mathlib.Omega.{arith}
-use lib.IntN.{ℤ, pos, negsuc, _+ℤ_, _-ℤ_}
+use lib.IntN.{pos, _+ℤ_}
 use mir.Syntax.{w32, w64}
-use mir.Val.{SFits, toZ, ofZ}
-use mir.Facts.{toZ-pos, toZ-ofZ, sfits-widen}
-use Rattle.codec.proofs.Ints.{widens, widened, sub-neg}
+use mir.Val.{toZ, ofZ}
+use mir.Facts.{toZ-pos}
+use Rattle.codec.proofs.Ints.{widens, widened}
 use Rattle.codec.proofs.Signed.{raised, raised-is, raised-small, raised-bits}
 use borrow.Author.Needs.{needs}
 use Rattle.codec.proofs.bits_of.Statement.{statement}

@@ -1,20 +1,15 @@
-use borrow.Author.Tests.{le-leb, lt-leb, ne-eqb, eq-eqb, not-true, not-false}
+use borrow.Author.Tests.{le-leb, lt-leb}
 use mathlib.Core.Bool.{or-false}
 use Rattle.layout.proofs.any_from.Statement.{statement}
 use Rattle.layout.proofs.any_from.Tie as tie
-use Rattle.layout.proofs.any_from.Reads as reads
-use Rattle.layout.proofs.any_from.Lts as lts
 
--- src/lib.rt:55:9
 returns : tie.Need-returns
 returns c = rw (le-leb (c .before .args .nv) (c .before .args .a) (c .if1 .taken))
 
--- src/lib.rt:58:9
 returns-2 : tie.Need-returns-2
 returns-2 c = let a = c .before .before .args in
     rw (lt-leb (a .nv) (a .a) (c .before .if1 .left), le-leb (a .nv) (a .b) (c .if2 .taken))
 
--- src/lib.rt:51:1
 returns-3 : tie.Need-returns-3
 returns-3 c = let a = c .before .before .args in
     rw (lt-leb (a .nv) (a .a) (c .before .if1 .left), lt-leb (a .nv) (a .b) (c .if2 .left), or-false)

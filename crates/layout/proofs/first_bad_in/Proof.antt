@@ -1,6 +1,6 @@
-use mathlib.Core.Path.{_≡_, refl, sym, ap, _∙_}
-use mathlib.Core.Bool.{true, false}
-use Prim.Native.Nat.{ℕ, _+_, _*_, _-_, _≤_, _<_}
+use mathlib.Core.Path.{_≡_, sym, _∙_}
+use mathlib.Core.Bool.{false}
+use Prim.Native.Nat.{ℕ, _-_, _≤_, _<_}
 use native.Mathlib.Omega.{arith}
 use borrow.Author.Count.{below-none, below-more}
 use denote.Ref.{now}
@@ -9,10 +9,6 @@ use Rattle.paper.specs.File.{fileTriangles}
 use Rattle.layout.proofs.Trailer.{bad-is, first-found, first-missing}
 use Rattle.layout.proofs.first_bad_in.Statement.{statement}
 use Rattle.layout.proofs.first_bad_in.Tie as tie
-use Rattle.layout.proofs.first_bad_in.Reads as reads
-use Rattle.layout.proofs.first_bad_in.Lts as lts
-use Rattle.layout.proofs.any_from.Reads as any-from-reads
-use Rattle.layout.proofs.triangle_word.Reads as triangle-word-reads
 
 abbrev Inv-loop : tie.InvT-loop
 Inv-loop bytes nv nt i₀ i = (i ≤ nt) × ((k : ℕ) → k < i → badTriangle nv (fileTriangles bytes) k ≡ false)
@@ -20,7 +16,6 @@ Inv-loop bytes nv nt i₀ i = (i ≤ nt) × ((k : ℕ) → k < i → badTriangle
 abbrev μ-loop : tie.MeasureT-loop
 μ-loop bytes nv nt i₀ i = nt - i
 
--- src/lib.rt:144:5
 -- the test that a turn makes is the definition's
 judged : (c : tie.After-any-from Inv-loop μ-loop)
     → c .any-from .result ≡ badTriangle (c .before .before .before .before .before .before .before .args .nv) (fileTriangles (now (c .before .before .before .before .before .before .before .args .bytes))) (c .before .before .before .before .before .loop .i)
@@ -34,55 +29,43 @@ judged c =
 loop-holds : tie.Need-loop-holds Inv-loop μ-loop
 loop-holds c = (omega arith, below-none _)
 
--- src/lib.rt:145:18
 mul-at : tie.Need-mul-at Inv-loop μ-loop
 mul-at c = omega arith
 
--- src/lib.rt:148:13
 triangle-word-requires : tie.Need-triangle-word-requires Inv-loop μ-loop
 triangle-word-requires c κs = omega arith
 
--- src/lib.rt:149:38
 add-triangle-word : tie.Need-add-triangle-word Inv-loop μ-loop
 add-triangle-word c = omega arith
 
--- src/lib.rt:149:13
 triangle-word-requires-2 : tie.Need-triangle-word-requires-2 Inv-loop μ-loop
 triangle-word-requires-2 c κs = omega arith
 
--- src/lib.rt:150:38
 add-triangle-word-2 : tie.Need-add-triangle-word-2 Inv-loop μ-loop
 add-triangle-word-2 c = omega arith
 
--- src/lib.rt:150:13
 triangle-word-requires-3 : tie.Need-triangle-word-requires-3 Inv-loop μ-loop
 triangle-word-requires-3 c κs = omega arith
 
--- src/lib.rt:146:12
 any-from-requires : tie.Need-any-from-requires Inv-loop μ-loop
 any-from-requires c κs = omega arith
 
--- src/lib.rt:152:13
 returns : tie.Need-returns Inv-loop μ-loop
 returns c =
     let l = c .before .before .before .before .before .before .loop in
     first-found _ _ _ (l .i) (omega arith) (l .inv .1) (sym (judged (c .before)) ∙ c .if1 .taken)
 
--- src/lib.rt:144:9
 add-i : tie.Need-add-i Inv-loop μ-loop
 add-i c = omega arith
 
--- src/lib.rt:144:5
 loop-less : tie.Need-loop-less Inv-loop μ-loop
 loop-less c = omega arith
 
--- src/lib.rt:144:5
 loop-again : tie.Need-loop-again Inv-loop μ-loop
 loop-again c =
     let l = c .before .before .before .before .before .before .loop in
     (omega arith, below-more _ (l .i) (l .inv .1) (sym (judged (c .before)) ∙ c .if1 .left))
 
--- src/lib.rt:140:1
 returns-2 : tie.Need-returns-2 Inv-loop μ-loop
 returns-2 c = first-missing _ _ _ (λ k h. c .before .loop .inv .1 k (omega arith))
 

@@ -1,23 +1,17 @@
-use mathlib.Core.Path.{_≡_, refl, sym, ap, _∙_}
+use mathlib.Core.Path.{sym, _∙_}
 use denote.Ref.{now}
 use mir.Facts.{toZ-ofZ}
 use Rattle.layout.proofs.Trailer.{vertex-at}
 use borrow.Author.Needs.{needs}
 use Rattle.layout.proofs.record_word.Statement.{statement}
 use Rattle.layout.proofs.record_word.Tie as tie
-use Rattle.layout.proofs.record_word.Reads as reads
-use Rattle.layout.proofs.record_word.Lts as lts
-use Rattle.codec.proofs.get_i32.Reads as get-i32-reads
 
--- src/lib.rt:112:27
 mul-get-i32 : tie.Need-mul-get-i32
 mul-get-i32 c = search needs
 
--- src/lib.rt:112:5
 get-i32-requires : tie.Need-get-i32-requires
 get-i32-requires c κs = search needs
 
--- src/lib.rt:108:1
 returns : tie.Need-returns
 returns c = let a = c .before .before .args in
     toZ-ofZ (record { sfits = c .get-i32 .ok }) ∙ (c .get-i32 .ensures ∙ sym (vertex-at (now (a .bytes)) (a .i) (c .before .before .pre .1)))

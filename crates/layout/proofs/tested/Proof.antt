@@ -1,7 +1,5 @@
-use mathlib.Core.Path.{_≡_, refl, sym, ap, _∙_}
+use mathlib.Core.Path.{_≡_, sym, ap, _∙_}
 use mathlib.Core.Bool.{true, false}
-use Prim.Native.Nat.{_≤_}
-use native.Mathlib.Omega.{arith}
 use borrow.Author.Tests.{le-leb, lt-leb, ne-eqb, eq-eqb}
 use denote.Ref.{now}
 use lib.Dec.{leb, eqb}
@@ -14,15 +12,6 @@ use Rattle.layout.proofs.Trailer.{ranged}
 use borrow.Author.Needs.{needs}
 use Rattle.layout.proofs.tested.Statement.{statement}
 use Rattle.layout.proofs.tested.Tie as tie
-use Rattle.layout.proofs.tested.Reads as reads
-use Rattle.layout.proofs.tested.Lts as lts
-use Rattle.layout.proofs.axes_fit.Reads as axes-fit-reads
-use Rattle.layout.proofs.first_bad_in.Reads as first-bad-in-reads
-use Rattle.layout.proofs.laid_out.Reads as laid-out-reads
-use Rattle.layout.proofs.sizes_of.Reads as sizes-of-reads
-use Rattle.layout.proofs.trailer2.Reads as trailer2-reads
-use Rattle.layout.proofs.triangle_count.Reads as triangle-count-reads
-use Rattle.layout.proofs.vertex_count.Reads as vertex-count-reads
 
 -- the tests that were passed at each place
 long : (c : tie.Else1) → leb 24 (length (now (c .before .before .args .bytes))) ≡ true
@@ -41,55 +30,43 @@ found : (c : tie.After-first-bad-in)
     → c .first-bad-in .result ≡ firstBad (fileV (now (c .before .before .before .before .before .before .before .before .before .before .before .before .args .bytes))) (fileT (now (c .before .before .before .before .before .before .before .before .before .before .before .before .args .bytes))) (fileTriangles (now (c .before .before .before .before .before .before .before .before .before .before .before .before .args .bytes)))
 found c = c .first-bad-in .ensures ∙ rw (c .before .vertex-count .ensures .0, c .before .before .triangle-count .ensures .0)
 
--- src/lib.rt:181:9
 returns : tie.Need-returns
 unfolding fileTests
 returns c = rw (lt-leb 24 (length (now (c .before .before .args .bytes))) (c .if1 .taken))
 
--- src/lib.rt:183:8
 trailer2-requires : tie.Need-trailer2-requires
 trailer2-requires c κs = search needs
 
--- src/lib.rt:184:9
 returns-2 : tie.Need-returns-2
 unfolding fileTests
 returns-2 c = rw (long (c .before .before), ne-eqb _ 21331 (λ e. c .if2 .taken (c .before .trailer2 .ensures ∙ e)))
 
--- src/lib.rt:186:18
 sizes-of-requires : tie.Need-sizes-of-requires
 sizes-of-requires c κs = search needs
 
--- src/lib.rt:186:9
 axes-fit-requires : tie.Need-axes-fit-requires
 axes-fit-requires c κs = search needs
 
--- src/lib.rt:187:9
 returns-3 : tie.Need-returns-3
 unfolding fileTests
 returns-3 c = rw (long (c .before .before .before .before .before), marked (c .before .before .before), fails (c .before .axes-fit .ensures ∙ ap axes (c .before .before .sizes-of .ensures)) (c .if3 .taken))
 
--- src/lib.rt:189:9
 laid-out-requires : tie.Need-laid-out-requires
 laid-out-requires c κs = search needs
 
--- src/lib.rt:190:9
 returns-4 : tie.Need-returns-4
 unfolding fileTests
 returns-4 c = rw (long (c .before .before .before .before .before .before .before), marked (c .before .before .before .before .before), sized (c .before .before), fails (c .before .laid-out .ensures) (c .if4 .taken))
 
--- src/lib.rt:192:9
 triangle-count-requires : tie.Need-triangle-count-requires
 triangle-count-requires c κs = search needs
 
--- src/lib.rt:193:35
 vertex-count-requires : tie.Need-vertex-count-requires
 vertex-count-requires c κs = search needs
 
--- src/lib.rt:193:9
 first-bad-in-requires : tie.Need-first-bad-in-requires
 first-bad-in-requires c κs = (ranged _ (laid (c .before .before)), c .vertex-count .ensures .0, c .before .triangle-count .ensures .0)
 
--- src/lib.rt:195:9
 returns-5 : tie.Need-returns-5
 unfolding fileTests
 returns-5 c = let bs = now (c .before .before .before .before .before .before .before .before .before .before .before .before .before .args .bytes) in
@@ -98,7 +75,6 @@ returns-5 c = let bs = now (c .before .before .before .before .before .before .b
     ne-eqb _ _ (λ e. c .if5 .taken (bad ∙ (e ∙ sym (c .before .before .before .triangle-count .ensures .0)))) in
     rw (long (c .before .before .before .before .before .before .before .before .before .before .before), marked (c .before .before .before .before .before .before .before .before .before), sized (c .before .before .before .before .before .before), laid (c .before .before .before .before), n) (ap (verdict 15) bad)
 
--- src/lib.rt:177:1
 returns-6 : tie.Need-returns-6
 unfolding fileTests
 returns-6 c = let bs = now (c .before .before .before .before .before .before .before .before .before .before .before .before .before .args .bytes) in

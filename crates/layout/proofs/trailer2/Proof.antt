@@ -2,27 +2,19 @@ use Rattle.paper.specs.File.{trailer}
 use borrow.Author.Needs.{needs}
 use Rattle.layout.proofs.trailer2.Statement.{statement}
 use Rattle.layout.proofs.trailer2.Tie as tie
-use Rattle.layout.proofs.trailer2.Reads as reads
-use Rattle.layout.proofs.trailer2.Lts as lts
-use Rattle.codec.proofs.get_u16.Reads as get-u16-reads
 
--- src/lib.rt:78:27
 sub-get-u16 : tie.Need-sub-get-u16
 sub-get-u16 c = search needs
 
--- src/lib.rt:78:27
 add-get-u16 : tie.Need-add-get-u16
 add-get-u16 c = search needs
 
--- src/lib.rt:78:5
 get-u16-requires : tie.Need-get-u16-requires
 get-u16-requires c κs = search needs
 
--- src/lib.rt:78:5
 cast-result : tie.Need-cast-result
 cast-result c = search needs
 
--- src/lib.rt:74:1
 returns : tie.Need-returns
 unfolding trailer
 returns c = c .get-u16 .ensures

@@ -1,4 +1,4 @@
-use mathlib.Core.Path.{_≡_, refl, sym, ap, _∙_}
+use mathlib.Core.Path.{sym, ap, _∙_}
 use denote.Ref.{now}
 use Prim.Native.Nat.{ℕ, _+_, _*_}
 use Rattle.lists.specs.Bytes.{field}
@@ -6,27 +6,19 @@ use Rattle.layout.proofs.Trailer.{triangle-at}
 use borrow.Author.Needs.{needs}
 use Rattle.layout.proofs.triangle_word.Statement.{statement}
 use Rattle.layout.proofs.triangle_word.Tie as tie
-use Rattle.layout.proofs.triangle_word.Reads as reads
-use Rattle.layout.proofs.triangle_word.Lts as lts
-use Rattle.codec.proofs.get_u32.Reads as get-u32-reads
 
--- src/lib.rt:120:27
 mul-get-u32 : tie.Need-mul-get-u32
 mul-get-u32 c = search needs
 
--- src/lib.rt:120:37
 mul-get-u32-2 : tie.Need-mul-get-u32-2
 mul-get-u32-2 c = search needs
 
--- src/lib.rt:120:27
 add-get-u32 : tie.Need-add-get-u32
 add-get-u32 c = search needs
 
--- src/lib.rt:120:5
 get-u32-requires : tie.Need-get-u32-requires
 get-u32-requires c κs = search needs
 
--- src/lib.rt:116:1
 returns : tie.Need-returns
 returns c = let a = c .before .before .args in
     c .get-u32 .ensures ∙ (ap (λ (n : ℕ). field 4 (now (a .bytes)) (16 * n + 4 * a .i)) (c .before .before .pre .1) ∙ sym (triangle-at (now (a .bytes)) (a .i) (c .before .before .pre .2)))

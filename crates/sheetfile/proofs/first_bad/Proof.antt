@@ -1,6 +1,6 @@
-use mathlib.Core.Path.{_≡_, refl, sym, ap, _∙_}
-use mathlib.Core.Bool.{true, false}
-use Prim.Native.Nat.{ℕ, _+_, _*_, _-_, _≤_, _<_}
+use mathlib.Core.Path.{_≡_, sym, _∙_}
+use mathlib.Core.Bool.{false}
+use Prim.Native.Nat.{ℕ, _-_, _≤_, _<_}
 use native.Mathlib.Omega.{arith}
 use borrow.Author.Count.{below-none, below-more}
 use denote.Ref.{now}
@@ -8,9 +8,6 @@ use Rattle.paper.specs.File.{badTriangle}
 use Rattle.layout.proofs.Trailer.{bad-is, first-found, first-missing}
 use Rattle.sheetfile.proofs.first_bad.Statement.{statement}
 use Rattle.sheetfile.proofs.first_bad.Tie as tie
-use Rattle.sheetfile.proofs.first_bad.Reads as reads
-use Rattle.sheetfile.proofs.first_bad.Lts as lts
-use Rattle.layout.proofs.any_from.Reads as any-from-reads
 
 abbrev Inv-loop : tie.InvT-loop
 Inv-loop nv nt triangles i₀ i = (i ≤ nt) × ((k : ℕ) → k < i → badTriangle nv triangles k ≡ false)
@@ -18,7 +15,6 @@ Inv-loop nv nt triangles i₀ i = (i ≤ nt) × ((k : ℕ) → k < i → badTria
 abbrev μ-loop : tie.MeasureT-loop
 μ-loop nv nt triangles i₀ i = nt - i
 
--- src/lib.rt:56:5
 -- the test that a turn makes is the definition's
 judged : (c : tie.After-any-from Inv-loop μ-loop)
     → c .any-from .result ≡ badTriangle (c .before .before .before .before .before .before .before .args .nv) (now (c .before .before .before .before .before .before .before .args .triangles)) (c .before .before .before .before .before .loop .i)
@@ -29,67 +25,52 @@ judged c =
 loop-holds : tie.Need-loop-holds Inv-loop μ-loop
 loop-holds c = (omega arith, below-none _)
 
--- src/lib.rt:57:18
 mul-at : tie.Need-mul-at Inv-loop μ-loop
 mul-at c = omega arith
 
--- src/lib.rt:58:25
 mul-any-from : tie.Need-mul-any-from Inv-loop μ-loop
 mul-any-from c = omega arith
 
--- src/lib.rt:58:25
 shared-slice-read-any-from : tie.Need-shared-slice-read-any-from Inv-loop μ-loop
 shared-slice-read-any-from c = omega arith
 
--- src/lib.rt:58:50
 add-any-from : tie.Need-add-any-from Inv-loop μ-loop
 add-any-from c = omega arith
 
--- src/lib.rt:58:40
 mul-any-from-2 : tie.Need-mul-any-from-2 Inv-loop μ-loop
 mul-any-from-2 c = omega arith
 
--- src/lib.rt:58:40
 shared-slice-read-any-from-2 : tie.Need-shared-slice-read-any-from-2 Inv-loop μ-loop
 shared-slice-read-any-from-2 c = omega arith
 
--- src/lib.rt:58:69
 add-any-from-2 : tie.Need-add-any-from-2 Inv-loop μ-loop
 add-any-from-2 c = omega arith
 
--- src/lib.rt:58:59
 mul-any-from-3 : tie.Need-mul-any-from-3 Inv-loop μ-loop
 mul-any-from-3 c = omega arith
 
--- src/lib.rt:58:59
 shared-slice-read-any-from-3 : tie.Need-shared-slice-read-any-from-3 Inv-loop μ-loop
 shared-slice-read-any-from-3 c = omega arith
 
--- src/lib.rt:58:12
 any-from-requires : tie.Need-any-from-requires Inv-loop μ-loop
 any-from-requires c κs = omega arith
 
--- src/lib.rt:59:13
 returns : tie.Need-returns Inv-loop μ-loop
 returns c =
     let l = c .before .before .before .before .before .before .loop in
     first-found _ _ _ (l .i) (omega arith) (l .inv .1) (sym (judged (c .before)) ∙ c .if1 .taken)
 
--- src/lib.rt:56:9
 add-i : tie.Need-add-i Inv-loop μ-loop
 add-i c = omega arith
 
--- src/lib.rt:56:5
 loop-less : tie.Need-loop-less Inv-loop μ-loop
 loop-less c = omega arith
 
--- src/lib.rt:56:5
 loop-again : tie.Need-loop-again Inv-loop μ-loop
 loop-again c =
     let l = c .before .before .before .before .before .before .loop in
     (omega arith, below-more _ (l .i) (l .inv .1) (sym (judged (c .before)) ∙ c .if1 .left))
 
--- src/lib.rt:52:1
 returns-2 : tie.Need-returns-2 Inv-loop μ-loop
 returns-2 c = first-missing _ _ _ (λ k h. c .before .loop .inv .1 k (omega arith))
 

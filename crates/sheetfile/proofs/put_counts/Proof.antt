@@ -1,4 +1,4 @@
-use mathlib.Core.Path.{_≡_, refl, sym, ap, _∙_}
+use mathlib.Core.Path.{refl}
 use denote.Ref.{now}
 use Prim.Native.Nat.{_+_, _*_}
 use Rattle.lists.specs.Bytes.{le}
@@ -7,75 +7,55 @@ use Rattle.sheetfile.proofs.Stored.{four}
 use borrow.Author.Needs.{needs}
 use Rattle.sheetfile.proofs.put_counts.Statement.{statement}
 use Rattle.sheetfile.proofs.put_counts.Tie as tie
-use Rattle.sheetfile.proofs.put_counts.Reads as reads
-use Rattle.sheetfile.proofs.put_counts.Lts as lts
-use Rattle.codec.proofs.put_u32.Reads as put-u32-reads
 
--- src/lib.rt:239:32
 mul-put-u32 : tie.Need-mul-put-u32
 mul-put-u32 c = search needs
 
--- src/lib.rt:239:42
 mul-put-u32-2 : tie.Need-mul-put-u32-2
 mul-put-u32-2 c = search needs
 
--- src/lib.rt:239:32
 add-put-u32 : tie.Need-add-put-u32
 add-put-u32 c = search needs
 
--- src/lib.rt:239:31
 cast-put-u32 : tie.Need-cast-put-u32
 cast-put-u32 c = search needs
 
--- src/lib.rt:239:5
 put-u32-requires : tie.Need-put-u32-requires
 put-u32-requires c κs = search needs
 
--- src/lib.rt:240:27
 add-put-u32-2 : tie.Need-add-put-u32-2
 add-put-u32-2 c = search needs
 
--- src/lib.rt:240:35
 cast-put-u32-2 : tie.Need-cast-put-u32-2
 cast-put-u32-2 c = search needs
 
--- src/lib.rt:240:5
 put-u32-requires-2 : tie.Need-put-u32-requires-2
 put-u32-requires-2 c κs = search needs
 
--- src/lib.rt:241:27
 add-put-u32-3 : tie.Need-add-put-u32-3
 add-put-u32-3 c = search needs
 
--- src/lib.rt:241:36
 mul-put-u32-3 : tie.Need-mul-put-u32-3
 mul-put-u32-3 c = search needs
 
--- src/lib.rt:241:35
 cast-put-u32-3 : tie.Need-cast-put-u32-3
 cast-put-u32-3 c = search needs
 
--- src/lib.rt:241:5
 put-u32-requires-3 : tie.Need-put-u32-requires-3
 put-u32-requires-3 c κs = search needs
 
--- src/lib.rt:242:27
 add-put-u32-4 : tie.Need-add-put-u32-4
 add-put-u32-4 c = search needs
 
--- src/lib.rt:242:36
 cast-put-u32-4 : tie.Need-cast-put-u32-4
 cast-put-u32-4 c = search needs
 
--- src/lib.rt:242:5
 put-u32-requires-4 : tie.Need-put-u32-requires-4
 put-u32-requires-4 c κs = search needs
 
--- src/lib.rt:235:1
 same-length : tie.Need-same-length
 same-length c = search needs
 
--- src/lib.rt:235:1
 returns : tie.Need-returns
 unfolding countBytes
 returns c =

@@ -1,61 +1,45 @@
-use mathlib.Core.Path.{_≡_, refl, sym, ap, _∙_}
+use mathlib.Core.Path.{refl}
 use denote.Ref.{now}
-use Prim.Native.Nat.{_+_, _*_}
 use Rattle.lists.specs.Bytes.{le}
 use Rattle.sheetfile.specs.Taken.{sizeBytes}
 use Rattle.sheetfile.proofs.Stored.{four}
 use borrow.Author.Needs.{needs}
 use Rattle.sheetfile.proofs.put_sizes.Statement.{statement}
 use Rattle.sheetfile.proofs.put_sizes.Tie as tie
-use Rattle.sheetfile.proofs.put_sizes.Reads as reads
-use Rattle.sheetfile.proofs.put_sizes.Lts as lts
-use Rattle.codec.proofs.put_u16.Reads as put-u16-reads
 
--- src/lib.rt:249:31
 cast-put-u16 : tie.Need-cast-put-u16
 cast-put-u16 c = search needs
 
--- src/lib.rt:249:5
 put-u16-requires : tie.Need-put-u16-requires
 put-u16-requires c κs = search needs
 
--- src/lib.rt:250:27
 add-put-u16 : tie.Need-add-put-u16
 add-put-u16 c = search needs
 
--- src/lib.rt:250:35
 cast-put-u16-2 : tie.Need-cast-put-u16-2
 cast-put-u16-2 c = search needs
 
--- src/lib.rt:250:5
 put-u16-requires-2 : tie.Need-put-u16-requires-2
 put-u16-requires-2 c κs = search needs
 
--- src/lib.rt:251:27
 add-put-u16-2 : tie.Need-add-put-u16-2
 add-put-u16-2 c = search needs
 
--- src/lib.rt:251:35
 cast-put-u16-3 : tie.Need-cast-put-u16-3
 cast-put-u16-3 c = search needs
 
--- src/lib.rt:251:5
 put-u16-requires-3 : tie.Need-put-u16-requires-3
 put-u16-requires-3 c κs = search needs
 
--- src/lib.rt:252:27
 add-put-u16-3 : tie.Need-add-put-u16-3
 add-put-u16-3 c = search needs
 
--- src/lib.rt:252:5
 put-u16-requires-4 : tie.Need-put-u16-requires-4
 put-u16-requires-4 c κs = search needs
 
--- src/lib.rt:245:1
 same-length : tie.Need-same-length
 same-length c = search needs
 
--- src/lib.rt:245:1
 returns : tie.Need-returns
 unfolding sizeBytes
 returns c =

@@ -1,5 +1,3 @@
-use mathlib.Core.Path.{_≡_, sym, ap, _∙_}
-use Prim.Native.Nat.{_≤_, _<_}
 use native.Mathlib.Omega.{arith}
 use denote.Ref.{now}
 use lib.ListN.{length}
@@ -8,68 +6,47 @@ use Rattle.sheetfile.proofs.Answers.{readable-laid, read-refused, read-
 use borrow.Author.Needs.{needs}
 use Rattle.sheetfile.proofs.read.Statement.{statement}
 use Rattle.sheetfile.proofs.read.Tie as tie
-use Rattle.sheetfile.proofs.read.Reads as reads
-use Rattle.sheetfile.proofs.read.Lts as lts
-use Rattle.codec.proofs.get_i32s.Reads as get-i32s-reads
-use Rattle.codec.proofs.get_u32s.Reads as get-u32s-reads
-use Rattle.sheetfile.proofs.readable.Reads as readable-reads
-use Rattle.layout.proofs.sizes_of.Reads as sizes-of-reads
-use Rattle.layout.proofs.triangle_count.Reads as triangle-count-reads
-use Rattle.layout.proofs.vertex_count.Reads as vertex-count-reads
 
 -- all tests were passed
 room : (c : tie.Else1) → Room (now (c .before .before .before .before .before .args .bytes)) (length (now (c .before .before .before .before .before .args .vertices))) (length (now (c .before .before .before .before .before .args .triangles)))
 room c = readable-laid _ (now (c .before .before .before .before .before .args .vertices)) (now (c .before .before .before .before .before .args .triangles)) _ (c .before .before .readable .ensures) (c .if1 .left)
 
--- src/lib.rt:301:9
 readable-requires : tie.Need-readable-requires
 readable-requires c κs = search needs
 
--- src/lib.rt:304:9
 returns : tie.Need-returns
 returns c = read-refused _ (now (c .before .before .before .before .before .args .vertices)) (now (c .before .before .before .before .before .args .triangles)) _ (c .before .before .readable .ensures) (c .if1 .taken)
 
--- src/lib.rt:306:9
 vertex-count-requires : tie.Need-vertex-count-requires
 vertex-count-requires c κs = omega (arith, room c .laid .ranged .long)
 
--- src/lib.rt:307:9
 triangle-count-requires : tie.Need-triangle-count-requires
 triangle-count-requires c κs = omega (arith, room (c .before) .laid .ranged .long)
 
--- src/lib.rt:308:41
 mul-get-i32s : tie.Need-mul-get-i32s
 mul-get-i32s c = search needs
 
--- src/lib.rt:308:5
 get-i32s-requires : tie.Need-get-i32s-requires
 get-i32s-requires c κs = omega (arith, room (c .before .before .before), room (c .before .before .before) .laid .ranged .long, c .before .before .vertex-count .ensures .0)
 
--- src/lib.rt:309:28
 mul-get-u32s : tie.Need-mul-get-u32s
 mul-get-u32s c = search needs
 
--- src/lib.rt:309:48
 mul-get-u32s-2 : tie.Need-mul-get-u32s-2
 mul-get-u32s-2 c = search needs
 
--- src/lib.rt:309:5
 get-u32s-requires : tie.Need-get-u32s-requires
 get-u32s-requires c κs = omega (arith, room (c .before .before .before .before .before .before), room (c .before .before .before .before .before .before) .laid .ranged .long, c .before .before .before .before .before .vertex-count .ensures .0, c .before .before .before .before .triangle-count .ensures .0)
 
--- src/lib.rt:310:9
 sizes-of-requires : tie.Need-sizes-of-requires
 sizes-of-requires c κs = omega (arith, room (c .before .before .before .before .before .before .before .before .before) .laid .ranged .long)
 
--- src/lib.rt:298:1
 same-length : tie.Need-same-length
 same-length c = search needs
 
--- src/lib.rt:298:1
 same-length-2 : tie.Need-same-length-2
 same-length-2 c = search needs
 
--- src/lib.rt:298:1
 returns-2 : tie.Need-returns-2
 returns-2 c = let a = c .before .before .before .before .before .before .before .before .before .before .before .before .before .before .before .args in
     read-done _ (now (a .vertices)) (now (a .triangles)) _ (c .before .before .before .before .before .before .before .before .before .before .before .before .readable .ensures) (c .before .before .before .before .before .before .before .before .before .before .if1 .left) _ _ _ _ _ (c .before .before .before .before .before .before .before .before .before .vertex-count .ensures .0)

@@ -12,11 +12,6 @@ use Rattle.layout.proofs.Passing.{file-numbered, laid-out}
 use borrow.Author.Needs.{needs}
 use Rattle.sheetfile.proofs.readable.Statement.{statement}
 use Rattle.sheetfile.proofs.readable.Tie as tie
-use Rattle.sheetfile.proofs.readable.Reads as reads
-use Rattle.sheetfile.proofs.readable.Lts as lts
-use Rattle.layout.proofs.tested.Reads as tested-reads
-use Rattle.layout.proofs.triangle_count.Reads as triangle-count-reads
-use Rattle.layout.proofs.vertex_count.Reads as vertex-count-reads
 
 -- the file's own tests were passed
 passed : (c : tie.Else1) → judge (fileTests (now (c .before .before .before .before .args .bytes))) .number ≡ 0
@@ -25,30 +20,24 @@ passed c = ap (λ (v : Verdict). v .number) (sym (c .before .before .tested .ens
 long : (c : tie.Else1) → 24 ≤ length (now (c .before .before .before .before .args .bytes))
 long c = omega (arith, laid-out (now (c .before .before .before .before .args .bytes)) (passed c) .ranged .long)
 
--- src/lib.rt:284:9
 tested-requires : tie.Need-tested-requires
 tested-requires c κs = search needs
 
--- src/lib.rt:286:9
 returns : tie.Need-returns
 returns c = let e = c .before .before .tested .ensures in
     e ∙ sym (judge-stop (fileTests (now (c .before .before .before .before .args .bytes))) _ (λ z. c .if1 .taken (ap (λ (v : Verdict). v .number) e ∙ z)))
 
--- src/lib.rt:288:13
 vertex-count-requires : tie.Need-vertex-count-requires
 vertex-count-requires c κs = long c
 
--- src/lib.rt:289:9
 returns-2 : tie.Need-returns-2
 returns-2 c = let bs = now (c .before .before .before .before .before .before .args .bytes) in
     let h : c .before .before .before .before .before .before .args .rv < fileV bs = omega (arith, c .before .vertex-count .ensures .0) in
     sym (judge-past (fileTests bs) _ (file-numbered bs) (passed (c .before .before)) ∙ rw (lt-leb (fileV bs) (c .before .before .before .before .before .before .args .rv) h))
 
--- src/lib.rt:291:13
 triangle-count-requires : tie.Need-triangle-count-requires
 triangle-count-requires c κs = long (c .before .before)
 
--- src/lib.rt:292:9
 returns-3 : tie.Need-returns-3
 returns-3 c = let bs = now (c .before .before .before .before .before .before .before .before .args .bytes) in
     let g : fileV bs ≤ c .before .before .before .before .before .before .before .before .args .rv = omega (arith, c .before .before .before .vertex-count .ensures .0) in
@@ -57,7 +46,6 @@ returns-3 c = let bs = now (c .before .before .before .before .before .before .b
     (judge-past (fileTests bs) _ (file-numbered bs) (passed (c .before .before .before .before))
     ∙ rw (le-leb (fileV bs) (c .before .before .before .before .before .before .before .before .args .rv) g, lt-leb (fileT bs) (c .before .before .before .before .before .before .before .before .args .rt) h))
 
--- src/lib.rt:281:1
 returns-4 : tie.Need-returns-4
 returns-4 c = let bs = now (c .before .before .before .before .before .before .before .before .args .bytes) in
     let g : fileV bs ≤ c .before .before .before .before .before .before .before .before .args .rv = omega (arith, c .before .before .before .vertex-count .ensures .0) in

@@ -1,6 +1,6 @@
-use mathlib.Core.Path.{_≡_, refl, sym, ap, _∙_}
+use mathlib.Core.Path.{_≡_, sym, ap, _∙_}
 use mathlib.Core.Bool.{true, false, _&&_}
-use Prim.Native.Nat.{_+_, _*_, _/_, _≤_}
+use Prim.Native.Nat.{_+_, _*_, _/_}
 use native.Mathlib.Omega.{arith}
 use borrow.Author.Tests.{le-leb, lt-leb, ne-eqb, eq-eqb}
 use denote.Ref.{now}
@@ -15,11 +15,6 @@ use Rattle.sheetfile.proofs.Stored.{counted}
 use borrow.Author.Needs.{needs}
 use Rattle.sheetfile.proofs.writable.Statement.{statement}
 use Rattle.sheetfile.proofs.writable.Tie as tie
-use Rattle.sheetfile.proofs.writable.Reads as reads
-use Rattle.sheetfile.proofs.writable.Lts as lts
-use Rattle.layout.proofs.axes_fit.Reads as axes-fit-reads
-use Rattle.sheetfile.proofs.counts_fit.Reads as counts-fit-reads
-use Rattle.sheetfile.proofs.first_bad.Reads as first-bad-reads
 
 -- the tests that were passed at each place
 sized : (c : tie.Else1) → axes (c .before .before .before .args .sizes) ≡ true
@@ -32,29 +27,23 @@ fitting c = passes (c .before .counts-fit .ensures) (c .if2 .left)
 taken : (c : tie.Else2) → Writable (c .before .before .before .before .before .args .nv) (c .before .before .before .before .before .args .nt) (length (now (c .before .before .before .before .before .args .vertices))) (length (now (c .before .before .before .before .before .args .triangles)))
 taken c = counted _ _ _ _ (fitting c)
 
--- src/lib.rt:219:9
 axes-fit-requires : tie.Need-axes-fit-requires
 axes-fit-requires c κs = search needs
 
--- src/lib.rt:220:9
 returns : tie.Need-returns
 unfolding writeVerdict fileLength trailerAt
 returns c = rw (fails (c .before .axes-fit .ensures) (c .if1 .taken))
 
--- src/lib.rt:222:9
 counts-fit-requires : tie.Need-counts-fit-requires
 counts-fit-requires c κs = search needs
 
--- src/lib.rt:223:9
 returns-2 : tie.Need-returns-2
 unfolding writeVerdict fileLength trailerAt
 returns-2 c = rw (sized (c .before .before), fails (c .before .counts-fit .ensures) (c .if2 .taken))
 
--- src/lib.rt:225:9
 first-bad-requires : tie.Need-first-bad-requires
 first-bad-requires c κs = taken c .room-t
 
--- src/lib.rt:227:9
 returns-3 : tie.Need-returns-3
 unfolding writeVerdict fileLength trailerAt
 returns-3 c = let a = c .before .before .before .before .before .before .before .args in
@@ -62,30 +51,24 @@ returns-3 c = let a = c .before .before .before .before .before .before .before 
     let n : eqb (firstBad (a .nv) (a .nt) (now (a .triangles))) (a .nt) ≡ false = ne-eqb _ _ (λ e. c .if3 .taken (bad ∙ e)) in
     rw (sized (c .before .before .before .before), fitting (c .before .before), n) (ap (verdict 15) bad)
 
--- src/lib.rt:229:15
 mul-if4 : tie.Need-mul-if4
 mul-if4 c = omega (arith, taken (c .before .before))
 
--- src/lib.rt:229:25
 mul-if4-2 : tie.Need-mul-if4-2
 mul-if4-2 c = omega (arith, taken (c .before .before))
 
--- src/lib.rt:229:15
 add-if4 : tie.Need-add-if4
 add-if4 c = omega (arith, taken (c .before .before))
 
--- src/lib.rt:229:15
 add-if4-2 : tie.Need-add-if4-2
 add-if4-2 c = omega (arith, taken (c .before .before))
 
--- src/lib.rt:230:9
 returns-4 : tie.Need-returns-4
 unfolding writeVerdict fileLength trailerAt
 returns-4 c = let a = c .before .before .before .before .before .before .before .before .args in
     let n : eqb (firstBad (a .nv) (a .nt) (now (a .triangles))) (a .nt) ≡ true = eq-eqb _ _ (sym (c .before .before .first-bad .ensures) ∙ c .before .if3 .left) in
     rw (sized (c .before .before .before .before .before), fitting (c .before .before .before), n, lt-leb (16 * a .nv + 12 * a .nt + 24) (a .room) (c .if4 .taken))
 
--- src/lib.rt:216:1
 returns-5 : tie.Need-returns-5
 unfolding writeVerdict fileLength trailerAt
 returns-5 c = let a = c .before .before .before .before .before .before .before .before .args in

@@ -1,4 +1,4 @@
-use mathlib.Core.Path.{_≡_, sym, ap, _∙_}
+use mathlib.Core.Path.{sym, ap, _∙_}
 use native.Mathlib.Omega.{arith}
 use denote.Ref.{now}
 use lib.ListN.{length}
@@ -8,51 +8,38 @@ use Rattle.sheetfile.proofs.Answers.{taken, write-refused, write-done}
 use borrow.Author.Needs.{needs}
 use Rattle.sheetfile.proofs.write.Statement.{statement}
 use Rattle.sheetfile.proofs.write.Tie as tie
-use Rattle.sheetfile.proofs.write.Reads as reads
-use Rattle.sheetfile.proofs.write.Lts as lts
-use Rattle.sheetfile.proofs.put_file.Reads as put-file-reads
-use Rattle.sheetfile.proofs.writable.Reads as writable-reads
 
 -- all tests were passed
 accepted : (c : tie.Else1)
     → Taken (c .before .before .before .before .before .args .sizes) (c .before .before .before .before .before .args .nv) (c .before .before .before .before .before .args .nt) (now (c .before .before .before .before .before .args .vertices)) (now (c .before .before .before .before .before .args .triangles)) (length (now (c .before .before .before .before .before .args .bytes)))
 accepted c = taken _ _ _ _ _ _ (ap (λ (v : Verdict). v .number) (sym (c .before .before .writable .ensures)) ∙ c .if1 .left)
 
--- src/lib.rt:270:9
 writable-requires : tie.Need-writable-requires
 writable-requires c κs = search needs
 
--- src/lib.rt:272:9
 returns : tie.Need-returns
 returns c = let a = c .before .before .before .before .before .args in
     write-refused (a .sizes) (a .nv) (a .nt) (now (a .vertices)) (now (a .triangles)) (now (a .bytes)) _ (c .before .before .writable .ensures) (c .if1 .taken)
 
--- src/lib.rt:274:5
 put-file-requires : tie.Need-put-file-requires
 put-file-requires c κs = let t = accepted (c .before) in
     (t .sized, t .counts, t .roomy)
 
--- src/lib.rt:275:41
 mul-t8 : tie.Need-mul-t8
 mul-t8 c = omega (arith, accepted (c .before .before .before .before) .counts)
 
--- src/lib.rt:275:51
 mul-t13 : tie.Need-mul-t13
 mul-t13 c = omega (arith, accepted (c .before .before .before .before) .counts)
 
--- src/lib.rt:275:41
 add-t14 : tie.Need-add-t14
 add-t14 c = omega (arith, accepted (c .before .before .before .before) .counts)
 
--- src/lib.rt:275:41
 add-t15 : tie.Need-add-t15
 add-t15 c = omega (arith, accepted (c .before .before .before .before) .counts)
 
--- src/lib.rt:267:1
 same-length : tie.Need-same-length
 same-length c = search needs
 
--- src/lib.rt:267:1
 returns-2 : tie.Need-returns-2
 returns-2 c = let a = c .before .before .before .before .before .before .before .before .before .args in
     write-done (a .sizes) (a .nv) (a .nt) (now (a .vertices)) (now (a .triangles)) (now (a .bytes)) _ (c .before .before .before .before .before .before .writable .ensures) (c .before .before .before .before .if1 .left) _ (c .before .before .put-file .ensures)
