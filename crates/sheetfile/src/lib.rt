@@ -69,13 +69,14 @@ fn writable(
         };
     }
     let bad = first_bad(nv, nt, triangles);
+    let long = 16 * nv + 12 * nt + 24;
     if bad != nt {
         return Verdict {
             number: 15,
             place: bad,
         };
     }
-    if room < 16 * nv + 12 * nt + 24 {
+    if room < long {
         return Verdict {
             number: 8,
             place: 0,

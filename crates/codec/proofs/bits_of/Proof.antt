@@ -1,3 +1,4 @@
+-- `codec::bits_of` meets its contract: with 2 ^ 32 added the number is not negative, and its remainder is the bits. Assumes nothing.
 use mathlib.Core.Path.{_≡_}
 use Prim.Native.Nat.{_-_}
 use native.Mathlib.Omega.{arith}

@@ -1,3 +1,4 @@
+-- `codec::byte` meets its contract: an element of a `&[u8]` is below 256. Assumes nothing.
 use native.Mathlib.Omega.{arith}
 use borrow.Author.Needs.{needs}
 use Rattle.codec.proofs.byte.Statement.{statement}

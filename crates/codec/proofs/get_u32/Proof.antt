@@ -1,3 +1,4 @@
+-- `codec::get_u32` meets its contract: the sum is `field` taken apart byte by byte. Assumes nothing.
 use native.Mathlib.Omega.{arith}
 use Prim.Native.Nat.{_+_}
 use denote.Ref.{now}

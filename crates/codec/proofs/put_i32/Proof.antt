@@ -1,3 +1,4 @@
+-- `codec::put_i32` meets its contract: it stores the bits of the number. Assumes nothing.
 use mathlib.Core.Path.{ap, _∙_}
 use mir.Facts.{toZ-ofZ}
 use Rattle.paper.specs.File.{bits32}

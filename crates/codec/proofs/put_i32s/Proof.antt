@@ -1,3 +1,4 @@
+-- `codec::put_i32s` meets its contract. The loop's invariant: the bytes of the numbers passed are stored, and nothing else. Assumes nothing.
 use mathlib.Core.Path.{_≡_, refl, ap, _∙_}
 use Prim.Native.Nat.{ℕ, _-_, _≤_}
 use native.Mathlib.Omega.{arith}

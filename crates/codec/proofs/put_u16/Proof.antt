@@ -1,3 +1,4 @@
+-- `codec::put_u16` meets its contract: its two stores are `le 2`, one after the other. Assumes nothing.
 use denote.Ref.{now}
 use native.Mathlib.Omega.{arith}
 use lib.ListN.{length-set}

@@ -1,3 +1,4 @@
+-- `codec::put_u32` meets its contract: its four stores are `le 4`, one after the other. Assumes nothing.
 use denote.Ref.{now}
 use native.Mathlib.Omega.{arith}
 use lib.ListN.{length-set}

@@ -1,3 +1,4 @@
+-- `codec::signed_of` meets its contract: bits from 2 ^ 31 on stand for the number 2 ^ 32 below. Assumes nothing.
 use mathlib.Core.Path.{_≡_, sym, _∙_}
 use Prim.Native.Nat.{_-_}
 use native.Mathlib.Omega.{arith}

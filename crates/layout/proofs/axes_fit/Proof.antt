@@ -1,3 +1,4 @@
+-- `layout::axes_fit` meets its contract: the first axis that does not fit settles the answer. Assumes nothing.
 use Rattle.layout.proofs.Flags.{fails, passes}
 use Rattle.paper.specs.Lattice.{axes}
 use borrow.Author.Needs.{needs}

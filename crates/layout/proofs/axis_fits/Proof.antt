@@ -1,3 +1,4 @@
+-- `layout::axis_fits` meets its contract: its two comparisons are those of `axis`. Assumes nothing.
 use borrow.Author.Tests.{le-leb, lt-leb}
 use Rattle.paper.specs.Lattice.{axis}
 use Rattle.layout.proofs.axis_fits.Statement.{statement}

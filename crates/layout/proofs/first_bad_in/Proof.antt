@@ -1,11 +1,11 @@
+-- `layout::first_bad_in` meets its contract. The loop's invariant: no triangle passed has an index that is not below V. Assumes nothing.
 use mathlib.Core.Path.{_≡_, sym, _∙_}
 use mathlib.Core.Bool.{false}
 use Prim.Native.Nat.{ℕ, _-_, _≤_, _<_}
 use native.Mathlib.Omega.{arith}
 use borrow.Author.Count.{below-none, below-more}
 use denote.Ref.{now}
-use Rattle.paper.specs.File.{badTriangle}
-use Rattle.paper.specs.File.{fileTriangles}
+use Rattle.paper.specs.File.{badTriangle, fileTriangles}
 use Rattle.layout.proofs.Trailer.{bad-is, first-found, first-missing}
 use Rattle.layout.proofs.first_bad_in.Statement.{statement}
 use Rattle.layout.proofs.first_bad_in.Tie as tie
@@ -18,7 +18,8 @@ abbrev μ-loop : tie.MeasureT-loop
 
 -- the test that a turn makes is the definition's
 judged : (c : tie.After-any-from Inv-loop μ-loop)
-    → c .any-from .result ≡ badTriangle (c .before .before .before .before .before .before .before .args .nv) (fileTriangles (now (c .before .before .before .before .before .before .before .args .bytes))) (c .before .before .before .before .before .loop .i)
+    → let a = c .before .before .before .before .before .before .before .args in
+    c .any-from .result ≡ badTriangle (a .nv) (fileTriangles (now (a .bytes))) (c .before .before .before .before .before .loop .i)
 judged c =
     let a = c .before .before .before .before .before .before .before .args in
     let i = c .before .before .before .before .before .loop .i in

@@ -1,3 +1,4 @@
+-- `layout::sizes_of` meets its contract: each size is a number of the trailer. Assumes nothing.
 use Rattle.paper.specs.File.{fileSizes}
 use borrow.Author.Needs.{needs}
 use Rattle.layout.proofs.sizes_of.Statement.{statement}

@@ -1,3 +1,4 @@
+-- `layout::trailer2` meets its contract: it is `field` at the trailer's place. Assumes nothing.
 use Rattle.paper.specs.File.{trailer}
 use borrow.Author.Needs.{needs}
 use Rattle.layout.proofs.trailer2.Statement.{statement}

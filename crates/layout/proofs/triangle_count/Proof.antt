@@ -1,3 +1,4 @@
+-- `layout::triangle_count` meets its contract: T is the trailer's number at 12. Assumes nothing.
 use Rattle.paper.specs.File.{fileT}
 use borrow.Author.Needs.{needs}
 use Rattle.layout.proofs.triangle_count.Statement.{statement}

@@ -1,3 +1,4 @@
+-- `layout::triangle_word` meets its contract: number i of the triangles stands at byte 16 V + 4 i. Assumes nothing.
 use mathlib.Core.Path.{sym, ap, _∙_}
 use denote.Ref.{now}
 use Prim.Native.Nat.{ℕ, _+_, _*_}
@@ -20,7 +21,8 @@ get-u32-requires : tie.Need-get-u32-requires
 get-u32-requires c κs = search needs
 
 returns : tie.Need-returns
-returns c = let a = c .before .before .args in
+returns c =
+    let a = c .before .before .args in
     c .get-u32 .ensures ∙ (ap (λ (n : ℕ). field 4 (now (a .bytes)) (16 * n + 4 * a .i)) (c .before .before .pre .1) ∙ sym (triangle-at (now (a .bytes)) (a .i) (c .before .before .pre .2)))
 
 pub triangle-word-spec : {M : Type 1} → statement M

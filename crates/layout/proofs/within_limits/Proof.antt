@@ -1,3 +1,4 @@
+-- `layout::within_limits` meets its contract: its two comparisons are those of `limits`. Assumes nothing.
 use borrow.Author.Tests.{le-leb, lt-leb}
 use Rattle.paper.specs.File.{limits}
 use Rattle.layout.proofs.within_limits.Statement.{statement}

@@ -1,3 +1,4 @@
+-- `sheetfile::first_bad` meets its contract. The loop's invariant: no triangle passed has an index that is not below V. Assumes nothing.
 use mathlib.Core.Path.{_≡_, sym, _∙_}
 use mathlib.Core.Bool.{false}
 use Prim.Native.Nat.{ℕ, _-_, _≤_, _<_}
@@ -17,7 +18,8 @@ abbrev μ-loop : tie.MeasureT-loop
 
 -- the test that a turn makes is the definition's
 judged : (c : tie.After-any-from Inv-loop μ-loop)
-    → c .any-from .result ≡ badTriangle (c .before .before .before .before .before .before .before .args .nv) (now (c .before .before .before .before .before .before .before .args .triangles)) (c .before .before .before .before .before .loop .i)
+    → let a = c .before .before .before .before .before .before .before .args in
+    c .any-from .result ≡ badTriangle (a .nv) (now (a .triangles)) (c .before .before .before .before .before .loop .i)
 judged c =
     let a = c .before .before .before .before .before .before .before .args in
     c .any-from .ensures ∙ sym (bad-is (a .nv) (now (a .triangles)) (c .before .before .before .before .before .loop .i))

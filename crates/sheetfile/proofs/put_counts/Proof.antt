@@ -1,3 +1,4 @@
+-- `sheetfile::put_counts` meets its contract: four stores of four bytes, one after the other. Assumes nothing.
 use mathlib.Core.Path.{refl}
 use denote.Ref.{now}
 use Prim.Native.Nat.{_+_, _*_}
@@ -59,9 +60,13 @@ same-length c = search needs
 returns : tie.Need-returns
 unfolding countBytes
 returns c =
-    let a = c .before .before .before .before .before .before .before .before .before .before .before .before .before .before .before .before .before .args in
+    let fourth = c .before .before in
+    let third = fourth .before .before .before .before in
+    let second = third .before .before .before .before in
+    let first = second .before .before .before .before in
+    let a = first .before .before .before .args in
     four (now (a .bytes)) 4 (a .at) (le 4 (16 * a .nv + 12 * a .nt)) (le 4 (a .nv)) (le 4 (12 * a .nt)) (le 4 (a .nt)) refl refl refl
-    (c .before .before .before .before .before .before .before .before .before .before .before .before .before .before .put-u32 .ensures) (c .before .before .before .before .before .before .before .before .before .before .put-u322 .ensures) (c .before .before .before .before .before .before .put-u323 .ensures) (c .before .before .put-u324 .ensures)
+    (first .put-u32 .ensures) (second .put-u322 .ensures) (third .put-u323 .ensures) (fourth .put-u324 .ensures)
 
 pub put-counts-spec : {M : Type 1} → statement M
 put-counts-spec =

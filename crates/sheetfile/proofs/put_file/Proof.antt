@@ -1,3 +1,4 @@
+-- `sheetfile::put_file` meets its contract: the file's parts are stored one after the other from the front. Assumes nothing.
 use denote.Ref.{now}
 use Rattle.sheetfile.proofs.Stored.{file-stored}
 use borrow.Author.Needs.{needs}
@@ -50,9 +51,15 @@ same-length : tie.Need-same-length
 same-length c = search needs
 
 returns : tie.Need-returns
-returns c = let a = c .before .before .before .before .before .before .before .before .before .before .before .before .before .before .before .before .before .before .args in
-    file-stored (a .sizes) (a .nv) (a .nt) (now (a .vertices)) (now (a .triangles)) (c .before .before .before .before .before .before .before .before .before .before .before .before .before .before .before .before .before .before .pre .1) (now (a .bytes)) (c .before .before .before .before .before .before .before .before .before .before .before .before .before .before .before .before .before .before .pre .2)
-    (c .before .before .before .before .before .before .before .before .before .before .before .before .before .before .put-i32s .ensures) (c .before .before .before .before .before .before .before .before .before .before .put-u32s .ensures) (c .before .before .before .before .before .before .put-counts .ensures) (c .before .before .put-sizes .ensures)
+returns c =
+    let fourth = c .before .before in
+    let third = fourth .before .before .before .before in
+    let second = third .before .before .before .before in
+    let first = second .before .before .before .before in
+    let start = first .before .before .before .before in
+    let a = start .args in
+    file-stored (a .sizes) (a .nv) (a .nt) (now (a .vertices)) (now (a .triangles)) (start .pre .1) (now (a .bytes)) (start .pre .2)
+    (first .put-i32s .ensures) (second .put-u32s .ensures) (third .put-counts .ensures) (fourth .put-sizes .ensures)
 
 pub put-file-spec : {M : Type 1} → statement M
 put-file-spec =

@@ -1,3 +1,4 @@
+-- `sheetfile::put_sizes` meets its contract: four stores of two bytes, one after the other. Assumes nothing.
 use mathlib.Core.Path.{refl}
 use denote.Ref.{now}
 use Rattle.lists.specs.Bytes.{le}
@@ -43,9 +44,13 @@ same-length c = search needs
 returns : tie.Need-returns
 unfolding sizeBytes
 returns c =
-    let a = c .before .before .before .before .before .before .before .before .before .before .before .before .before .before .before .before .before .before .before .before .args in
+    let fourth = c .before .before in
+    let third = fourth .before .before .before .before in
+    let second = third .before .before .before .before .before in
+    let first = second .before .before .before .before .before in
+    let a = first .before .before .before .before .args in
     four (now (a .bytes)) 2 (a .at) (le 2 (a .z .nx)) (le 2 (a .z .ny)) (le 2 (a .z .nz)) (le 2 21331) refl refl refl
-    (c .before .before .before .before .before .before .before .before .before .before .before .before .before .before .before .before .put-u16 .ensures) (c .before .before .before .before .before .before .before .before .before .before .before .put-u162 .ensures) (c .before .before .before .before .before .before .put-u163 .ensures) (c .before .before .put-u164 .ensures)
+    (first .put-u16 .ensures) (second .put-u162 .ensures) (third .put-u163 .ensures) (fourth .put-u164 .ensures)
 
 pub put-sizes-spec : {M : Type 1} → statement M
 put-sizes-spec =
