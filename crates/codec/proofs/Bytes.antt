@@ -23,10 +23,6 @@ pub field-none : (bs : List ℕ) (at : ℕ) → field 0 bs at ≡ 0
 unfolding field
 field-none bs at = refl
 
-pub length-le : (k n : ℕ) → length (le k n) ≡ k
-length-le zero n = refl
-length-le (suc k) n = ap suc (length-le k (n / 256))
-
 -- the bytes of a number give it back
 pub unle-le : (k n : ℕ) → n < 256 ^ k → unle (le k n) ≡ n
 unle-le zero n h = omega arith

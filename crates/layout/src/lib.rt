@@ -12,6 +12,7 @@ ghost use Rattle.layout.specs.Laid.{anyFrom, Ranged};
 
 // ── tests ──
 
+// "An axis has 2 to 64 samples."
 fn axis_fits(n: usize) -> bool
     ensures { λ r. ⌜ r ≡ axis n ⌝ }
 {
@@ -31,6 +32,7 @@ pub fn axes_fit(z: Sizes) -> bool
     axis_fits(z.nz)
 }
 
+// "V is at most 2,000,000 and T at most 4,000,000."
 pub fn within_limits(nv: usize, nt: usize) -> bool
     ensures { λ r. ⌜ r ≡ limits nv nt ⌝ }
 {
@@ -52,6 +54,7 @@ pub fn any_from(nv: usize, a: u32, b: u32, c: u32) -> bool
 
 // ── a file's trailer, records and triangles ──
 
+// The u32 at a place of the trailer.
 fn trailer4(bytes: &[u8], at: usize) -> usize
     requires { ⌜ (24 ≤ length (now bytes)) × (at + 4 ≤ 24) ⌝ }
     ensures { λ r. ⌜ (r ≡ trailer 4 (now (bytes .entry)) at) × (r < 4294967296) ⌝ }
@@ -59,6 +62,7 @@ fn trailer4(bytes: &[u8], at: usize) -> usize
     codec::get_u32(bytes, bytes.len() - 24 + at) as usize
 }
 
+// The u16 at a place of the trailer.
 fn trailer2(bytes: &[u8], at: usize) -> usize
     requires { ⌜ (24 ≤ length (now bytes)) × (at + 2 ≤ 24) ⌝ }
     ensures { λ r. ⌜ r ≡ trailer 2 (now (bytes .entry)) at ⌝ }
@@ -66,7 +70,7 @@ fn trailer2(bytes: &[u8], at: usize) -> usize
     codec::get_u16(bytes, bytes.len() - 24 + at) as usize
 }
 
-// V
+// V, by the trailer.
 pub fn vertex_count(bytes: &[u8]) -> usize
     requires { ⌜ 24 ≤ length (now bytes) ⌝ }
     ensures { λ r. ⌜ (r ≡ fileV (now (bytes .entry))) × (r < 4294967296) ⌝ }
@@ -74,7 +78,7 @@ pub fn vertex_count(bytes: &[u8]) -> usize
     trailer4(bytes, 4)
 }
 
-// T
+// T, by the trailer.
 pub fn triangle_count(bytes: &[u8]) -> usize
     requires { ⌜ 24 ≤ length (now bytes) ⌝ }
     ensures { λ r. ⌜ (r ≡ fileT (now (bytes .entry))) × (r < 4294967296) ⌝ }
@@ -82,6 +86,7 @@ pub fn triangle_count(bytes: &[u8]) -> usize
     trailer4(bytes, 12)
 }
 
+// nx, ny and nz, by the trailer.
 pub fn sizes_of(bytes: &[u8]) -> Sizes
     requires { ⌜ 24 ≤ length (now bytes) ⌝ }
     ensures { λ r. ⌜ r ≡ fileSizes (now (bytes .entry)) ⌝ }

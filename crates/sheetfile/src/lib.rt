@@ -88,6 +88,7 @@ fn writable(
     }
 }
 
+// "distance to the vertices (16V + 12T), V, distance to the triangles (12T), T, as four u32"
 fn put_counts(bytes: &mut [u8], at: usize, nv: usize, nt: usize)
     requires { ⌜ (at + 16 ≤ length (now bytes)) × (nv ≤ 2000000) × (nt ≤ 4000000) ⌝ }
     ensures { λ _. ⌜ now (bytes .exit) ≡ sets (now (bytes .entry)) at (countBytes nv nt) ⌝ }
@@ -98,6 +99,7 @@ fn put_counts(bytes: &mut [u8], at: usize, nv: usize, nt: usize)
     codec::put_u32(bytes, at + 12, nt as u32);
 }
 
+// "nx, ny, nz and the mark 21,331 as four u16"
 fn put_sizes(bytes: &mut [u8], at: usize, z: Sizes)
     requires { ⌜ (at + 8 ≤ length (now bytes)) × Sized z ⌝ }
     ensures { λ _. ⌜ now (bytes .exit) ≡ sets (now (bytes .entry)) at (sizeBytes z) ⌝ }
