@@ -9,3 +9,4 @@ pub mod Limits
 pub mod Visits
 pub mod Finding
 pub mod Steps
+pub mod Judged
