@@ -152,6 +152,14 @@ module _ (next : ℕ → List ℕ) (n : ℕ) where
   unfolding reached
   sound start k t = sound-at start n k t
 
+  -- the list is what it keeps of the numbers below n
+  pub reached-kept : (start : ℕ) → reached next n start ≡ keep (isIn (reached next n start)) (range 0 n)
+  unfolding reached
+  reached-kept start =
+      marked start n
+      ∙ keep-same (mark start n) (isIn (rounds next n start n)) (range 0 n)
+      (λ k t. sym (in-round start n k ∙ ap (λ (b : Bool). b && mark start n k) (T→eq (isIn (range 0 n) k) t)))
+
   pub reached-lt : (start k : ℕ) → T (isIn (reached next n start) k) → k < n
   unfolding reached
   reached-lt start k t =

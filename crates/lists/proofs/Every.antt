@@ -2,7 +2,7 @@
 -- place or at a member. Assumes nothing.
 use mathlib.Core.Path.{_≡_, refl, sym, ap, subst}
 use mathlib.Core.Logic.{inl, inr}
-use mathlib.Core.Bool.{Bool, true, false, _&&_, _||_}
+use mathlib.Core.Bool.{Bool, true, false, cond, _&&_, _||_}
 use mathlib.Core.List.{List, [], _∷_, _++_, map}
 use Prim.Native.Nat.{ℕ, zero, suc, _*_, _≤_, _<_}
 use native.Mathlib.Omega.{arith}
@@ -148,4 +148,14 @@ module _ {A B : Type 0} where
       go : (b : Bool) → any p (map f (keep q xs)) ≡ any (λ x. q x && p (f x)) xs
           → any p (map f (consIf b x (keep q xs))) ≡ ((b && p (f x)) || any (λ x. q x && p (f x)) xs)
       go true e = ap (λ (c : Bool). p (f x) || c) e
+      go false e = e
+
+  -- what is made of those that pass
+  pub each-keep : (f : A → List B) (p : A → Bool) (l : List A) → each f (keep p l) ≡ each (λ x. cond (p x) (f x) []) l
+  each-keep f p [] = refl
+  each-keep f p (x ∷ xs) = go (p x) (each-keep f p xs)
+    where
+      go : (b : Bool) → each f (keep p xs) ≡ each (λ x. cond (p x) (f x) []) xs
+          → each f (consIf b x (keep p xs)) ≡ cond b (f x) [] ++ each (λ x. cond (p x) (f x) []) xs
+      go true e = ap (λ (l : List B). f x ++ l) e
       go false e = e

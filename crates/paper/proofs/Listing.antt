@@ -181,7 +181,7 @@ module _ (L : Lattice) (s : Sized (L .size)) (start : ℕ) where
 
 -- ── counts ──
 
-record-length : (L : Lattice) (e : ℕ) → length (vertexRecord L e) ≡ 4
+pub record-length : (L : Lattice) (e : ℕ) → length (vertexRecord L e) ≡ 4
 unfolding vertexRecord recordAt
 record-length L e =
     let anchor = sampleAt (L .size) (e / 7) in

@@ -1,0 +1,136 @@
+-- Records one behind the other, anchor by anchor. Assumes nothing.
+use mathlib.Core.Path.{_≡_, refl, sym, ap, subst, _∙_}
+use mathlib.Core.Bool.{Bool, true, false, cond, not}
+use mathlib.Core.List.{List, [], _∷_, _++_, append-nil, append-assoc}
+use Prim.Native.Nat.{ℕ, zero, suc, _+_, _-_, _*_, _/_, _%_, _≤_, _<_}
+use native.Mathlib.Omega.{arith}
+use native.Mathlib.Nat.{zero-add, add-zero}
+use native.Mathlib.Numerals.{add-one}
+use lib.Dec.{T, eqb}
+use lib.IntN.{ℤ}
+use lib.ListN.{length, getD, set, drop, length-append}
+use Rattle.lists.proofs.Member.{eq→T}
+use lib.Seq.{sets, sets-eq, length-sets}
+use borrow.Author.Tests.{eq-eqb, ne-eqb}
+use Rattle.lists.specs.Lists.{range, consIf, keep, each, over}
+use Rattle.lists.proofs.Every.{each-length}
+use Rattle.lists.proofs.Runs.{keep-append, each-append}
+use Rattle.paper.specs.declared.Sizes.{Sizes}
+use Rattle.paper.specs.declared.Place.{Place}
+use Rattle.paper.specs.Lattice.{Lattice, place, samples, sampleNo, sampleAt}
+use Rattle.paper.specs.Sheet.{vertexRecord}
+use Rattle.paper.specs.Within.{Sized, SampleIn}
+use Rattle.paper.proofs.Listing.{record-length}
+use Rattle.paper.proofs.Numbers.{sample-place, sample-inside, sample-back}
+use Rattle.crossing.specs.Vertex.{Crosses}
+use Rattle.survey.specs.Marks.{used}
+use Rattle.vertices.specs.Records.{usedFrom, recordsFrom, AnchorCrosses, AllCross}
+
+-- ── runs ──
+
+range-join : (a m n : ℕ) → range a (m + n) ≡ range a m ++ range (a + m) n
+range-join a zero n = (λ i. range (sym (add-zero a) i) (zero-add n i))
+range-join a (suc m) n =
+    let e : suc m + n ≡ suc (m + n) = omega arith in
+    let f : suc a + m ≡ a + suc m = omega arith in
+    ap (range a) e ∙ ap (λ (l : List ℕ). a ∷ l) (range-join (suc a) m n ∙ ap (λ (b : ℕ). range (suc a) m ++ range b n) f)
+
+used-join : (slots : List ℕ) (a m n : ℕ) → usedFrom slots a (m + n) ≡ usedFrom slots a m ++ usedFrom slots (a + m) n
+unfolding usedFrom
+used-join slots a m n = ap (keep (used slots)) (range-join a m n) ∙ keep-append (used slots) (range a m) (range (a + m) n)
+
+pub used-count : (slots : List ℕ) (a m n : ℕ) → length (usedFrom slots a m) + length (usedFrom slots (a + m) n) ≡ length (usedFrom slots a (m + n))
+used-count slots a m n = sym (ap length (used-join slots a m n) ∙ length-append (usedFrom slots a m) (usedFrom slots (a + m) n))
+
+records-join : (L : Lattice) (slots : List ℕ) (a m n : ℕ) → recordsFrom L slots a (m + n) ≡ recordsFrom L slots a m ++ recordsFrom L slots (a + m) n
+unfolding recordsFrom
+records-join L slots a m n = ap (each (vertexRecord L)) (used-join slots a m n) ∙ each-append (vertexRecord L) (usedFrom slots a m) (usedFrom slots (a + m) n)
+
+pub records-length : (L : Lattice) (slots : List ℕ) (a n : ℕ) → length (recordsFrom L slots a n) ≡ 4 * length (usedFrom slots a n)
+unfolding recordsFrom
+records-length L slots a n = each-length (vertexRecord L) 4 (record-length L) (usedFrom slots a n)
+
+-- ── writing one behind the other ──
+
+sets-join : (l a b : List ℤ) (i : ℕ) → sets (sets l i a) (i + length a) b ≡ sets l i (a ++ b)
+sets-join l [] b i = ap (λ (j : ℕ). sets l j b) (add-zero i)
+sets-join l (x ∷ a) b i =
+    let e : i + suc (length a) ≡ suc i + length a = omega arith in
+    ap (λ (j : ℕ). sets (sets (set l i x) (suc i) a) j b) e ∙ sets-join (set l i x) a b (suc i)
+
+-- n records are written from place `at` on
+unfoldable pub writtenTo : Lattice → List ℕ → ℕ → ℕ → ℕ → List ℤ → List ℤ
+writtenTo L slots a n at l = sets l (4 * at) (recordsFrom L slots a n)
+
+module _ (L : Lattice) (slots : List ℕ) (a at : ℕ) (l : List ℤ) where
+  pub written-none : l ≡ writtenTo L slots a 0 at l
+  unfolding writtenTo recordsFrom usedFrom
+  written-none = refl
+
+  pub written-more : (m n : ℕ) → sets (writtenTo L slots a m at l) (4 * (at + length (usedFrom slots a m))) (recordsFrom L slots (a + m) n)
+      ≡ writtenTo L slots a (m + n) at l
+  unfolding writtenTo
+  written-more m n =
+      let e : 4 * (at + length (usedFrom slots a m)) ≡ 4 * at + length (recordsFrom L slots a m) = omega (arith, records-length L slots a m) in
+      ap (λ (j : ℕ). sets (sets l (4 * at) (recordsFrom L slots a m)) j (recordsFrom L slots (a + m) n)) e
+      ∙ (sets-join l (recordsFrom L slots a m) (recordsFrom L slots (a + m) n) (4 * at) ∙ ap (sets l (4 * at)) (sym (records-join L slots a m n)))
+
+  pub written-length : (n : ℕ) → length (writtenTo L slots a n at l) ≡ length l
+  unfolding writtenTo
+  written-length n = length-sets l (4 * at) (recordsFrom L slots a n)
+
+-- at the front of a slice
+pub written-front : (L : Lattice) (slots : List ℕ) (n : ℕ) (l : List ℤ) → 4 * length (usedFrom slots 0 n) ≤ length l
+    → writtenTo L slots 0 n 0 l ≡ over (recordsFrom L slots 0 n) l
+unfolding writtenTo
+written-front L slots n l h =
+    let r = recordsFrom L slots 0 n in
+    sets-eq r l 0 (omega (arith, records-length L slots 0 n)) ∙ ap (λ (k : ℕ). r ++ drop k l) (zero-add (length r))
+
+-- ── one slot ──
+
+module _ (L : Lattice) (slots : List ℕ) (e : ℕ) where
+  pub one-idle : getD slots e 0 ≡ 0 → usedFrom slots e 1 ≡ []
+  unfolding usedFrom used
+  one-idle q = ap (λ (b : Bool). consIf (not b) e []) (eq-eqb (getD slots e 0) 0 q)
+
+  pub one-used : (getD slots e 0 ≡ 0 → ⊥) → usedFrom slots e 1 ≡ e ∷ []
+  unfolding usedFrom used
+  one-used q = ap (λ (b : Bool). consIf (not b) e []) (ne-eqb (getD slots e 0) 0 q)
+
+  pub is-used : (getD slots e 0 ≡ 0 → ⊥) → T (used slots e)
+  unfolding used
+  is-used q = eq→T (ap not (ne-eqb (getD slots e 0) 0 q))
+
+  pub none-written : getD slots e 0 ≡ 0 → recordsFrom L slots e 1 ≡ []
+  unfolding recordsFrom
+  none-written q = ap (each (vertexRecord L)) (one-idle q)
+
+  pub one-written : (getD slots e 0 ≡ 0 → ⊥) → recordsFrom L slots e 1 ≡ vertexRecord L e
+  unfolding recordsFrom
+  one-written q = ap (each (vertexRecord L)) (one-used q) ∙ append-nil (vertexRecord L e)
+
+-- ── anchors one after the other ──
+
+pub first-sample : (z : Sizes) → Sized z → place 0 0 0 ≡ sampleAt z 0
+unfolding sampleNo
+first-sample z s = sym (sample-place z (place 0 0 0) (omega (arith, s .x-low)) (omega (arith, s .y-low))) ∙ ap (sampleAt z) (omega arith)
+
+module _ (L : Lattice) (s : Sized (L .size)) (slots : List ℕ) (x : AllCross L slots) (p : Place) (i : ℕ) (h : i < samples (L .size)) (e : p ≡ sampleAt (L .size) i) where
+  pub anchor-in : SampleIn (L .size) p
+  anchor-in = subst (SampleIn (L .size)) (sym e) (sample-inside (L .size) s i h)
+
+  pub anchor-no : sampleNo (L .size) p ≡ i
+  anchor-no = ap (sampleNo (L .size)) e ∙ sample-back (L .size) s i h
+
+  pub anchor-crosses : AnchorCrosses L slots p (7 * i)
+  anchor-crosses = record {
+    at = λ k hk t.
+        let q : (7 * i + k) / 7 ≡ i = omega arith in
+        let r : (7 * i + k) % 7 ≡ k = omega arith in
+        subst (λ (k : ℕ). Crosses L p k) r
+        (subst (λ (w : Place). Crosses L w ((7 * i + k) % 7)) (ap (sampleAt (L .size)) q ∙ sym e) (x .at (7 * i + k) (omega arith) t));
+  }
+
+  pub anchor-next : (q : Place) → q ≡ sampleAt (L .size) (sampleNo (L .size) p + 1) → q ≡ sampleAt (L .size) (i + 1)
+  anchor-next q r = r ∙ ap (λ (n : ℕ). sampleAt (L .size) (n + 1)) anchor-no

@@ -1,0 +1,2 @@
+-- Laws of records one behind the other.
+pub mod Laws
