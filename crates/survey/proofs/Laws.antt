@@ -6,7 +6,7 @@ use Prim.Native.Nat.{ℕ, zero, suc, _+_, _*_, _%_, _≤_, _<_}
 use native.Mathlib.Numerals.{add-one}
 use native.Mathlib.Nat.{zero-add}
 use native.Mathlib.Omega.{arith}
-use native.Mathlib.Decide.{ℕ-discrete}
+use native.Mathlib.Decide.{decLt}
 use lib.Dec.{T, eqb}
 use lib.ListN.{length, getD, set, drop, length-set, length-append}
 use lib.Seq.{set-at, getD-at, drop-cons, getD-set-same, getD-set-other}
@@ -65,12 +65,26 @@ module _ (steps : List ℕ) (base m : ℕ) (l : List ℕ) where
 unfoldable pub countTo : ℕ → ℕ → ℕ
 countTo m t = length (each (λ t. getD rows (rowBy m t) []) (range 0 t))
 
--- one more cube
-each-more : {A : Type 0} (f : ℕ → List A) (k : ℕ) → each f (range 0 (k + 1)) ≡ each f (range 0 k) ++ f k
+-- one more of a run
+pub each-more : {A : Type 0} (f : ℕ → List A) (k : ℕ) → each f (range 0 (k + 1)) ≡ each f (range 0 k) ++ f k
 each-more f k =
     ap (λ (n : ℕ). each f (range 0 n)) (add-one k)
     ∙ (ap (each f) (range-snoc 0 k ∙ ap (λ (n : ℕ). range 0 k ++ n ∷ []) (zero-add k))
     ∙ (each-append f (range 0 k) (k ∷ []) ∙ ap (λ (l : List _). each f (range 0 k) ++ l) (append-nil (f k))))
+
+-- a longer run makes no less
+pub each-prefix : {A : Type 0} (f : ℕ → List A) (m n : ℕ) → m ≤ n → length (each f (range 0 m)) ≤ length (each f (range 0 n))
+each-prefix f m zero h = let e : m ≡ 0 = omega arith in subst (λ (m : ℕ). length (each f (range 0 m)) ≤ 0) (sym e) (omega arith)
+each-prefix f m (suc n) h = go (decLt m (suc n)) (λ l. each-prefix f m n l)
+  where
+    step : length (each f (range 0 (suc n))) ≡ length (each f (range 0 n)) + length (f n)
+    step =
+        ap (λ (k : ℕ). length (each f (range 0 k))) (sym (add-one n)) ∙ (ap length (each-more f n) ∙ length-append (each f (range 0 n)) (f n))
+
+    go : Dec (m < suc n) → (m ≤ n → length (each f (range 0 m)) ≤ length (each f (range 0 n)))
+        → length (each f (range 0 m)) ≤ length (each f (range 0 (suc n)))
+    go (yes l) ih = omega (arith, ih (omega arith), step)
+    go (no l) ih = let e : m ≡ suc n = omega arith in subst (λ (k : ℕ). length (each f (range 0 k)) ≤ length (each f (range 0 (suc n)))) (sym e) (omega arith)
 
 pub count-none : (m : ℕ) → 0 ≡ countTo m 0
 unfolding countTo

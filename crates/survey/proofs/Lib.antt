@@ -1,3 +1,4 @@
 -- Laws of the passes.
 pub mod Laws
 pub mod Cubes
+pub mod Stores

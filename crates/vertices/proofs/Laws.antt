@@ -8,7 +8,7 @@ use native.Mathlib.Nat.{zero-add, add-zero}
 use native.Mathlib.Numerals.{add-one}
 use lib.Dec.{T, eqb}
 use lib.IntN.{ℤ}
-use lib.ListN.{length, getD, set, drop, length-append}
+use lib.ListN.{length, getD, drop, length-append}
 use Rattle.lists.proofs.Member.{eq→T}
 use lib.Seq.{sets, sets-eq, length-sets}
 use borrow.Author.Tests.{eq-eqb, ne-eqb}
@@ -24,6 +24,7 @@ use Rattle.paper.proofs.Listing.{record-length}
 use Rattle.paper.proofs.Numbers.{sample-place, sample-inside, sample-back}
 use Rattle.crossing.specs.Vertex.{Crosses}
 use Rattle.survey.specs.Marks.{used}
+use Rattle.survey.proofs.Stores.{sets-join}
 use Rattle.vertices.specs.Records.{usedFrom, recordsFrom, AnchorCrosses, AllCross}
 
 -- ── runs ──
@@ -51,12 +52,6 @@ unfolding recordsFrom
 records-length L slots a n = each-length (vertexRecord L) 4 (record-length L) (usedFrom slots a n)
 
 -- ── writing one behind the other ──
-
-sets-join : (l a b : List ℤ) (i : ℕ) → sets (sets l i a) (i + length a) b ≡ sets l i (a ++ b)
-sets-join l [] b i = ap (λ (j : ℕ). sets l j b) (add-zero i)
-sets-join l (x ∷ a) b i =
-    let e : i + suc (length a) ≡ suc i + length a = omega arith in
-    ap (λ (j : ℕ). sets (sets (set l i x) (suc i) a) j b) e ∙ sets-join (set l i x) a b (suc i)
 
 -- n records are written from place `at` on
 unfoldable pub writtenTo : Lattice → List ℕ → ℕ → ℕ → ℕ → List ℤ → List ℤ

@@ -1,0 +1,2 @@
+-- Laws of triangles one behind the other.
+pub mod Laws
