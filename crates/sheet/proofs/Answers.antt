@@ -1,0 +1,187 @@
+-- The answer of a build and what it leaves, refusal by refusal. Assumes nothing.
+use mathlib.Core.Path.{_≡_, refl, sym, ap, subst, _∙_}
+use mathlib.Core.Bool.{Bool, true, false, cond}
+use mathlib.Core.List.{List, [], _∷_, _++_}
+use Prim.Native.Nat.{ℕ, zero, suc, _*_, _/_, _≤_, _<_}
+use native.Mathlib.Omega.{arith}
+use lib.Dec.{eqb, leb}
+use lib.IntN.{ℤ}
+use lib.ListN.{length}
+use borrow.Author.Tests.{ne-eqb, le-leb, lt-leb}
+use Rattle.lists.specs.Lists.{over, cleared, isIn}
+use Rattle.paper.specs.declared.Sizes.{Sizes}
+use Rattle.paper.specs.declared.Start.{Start}
+use Rattle.paper.specs.declared.Built.{Built}
+use Rattle.paper.specs.Lattice.{Lattice, axes, samples, cubes, visited}
+use Rattle.paper.specs.Sheet.{Sheet, sheetOf, vertexWords, triangleWords}
+use Rattle.paper.specs.Tests.{Test, test, judge}
+use Rattle.paper.specs.Build.{Lent, lent, vertexRoom, triangleRoom, needed, neededSlots, roomy, named, startOf, starts, sampleTests, roomTests, buildNumber, counted, uncounted, built, workAfter, outputAfter, lentAfter, Builds}
+use Rattle.paper.proofs.Judged.{Numbered, judge-past, judge-stop}
+use Rattle.flood.specs.Flooded.{wordsOf}
+use Rattle.sheet.specs.declared.Counts.{Counts}
+use Rattle.sheet.specs.Measured.{slotsOf, countsOf, Measured}
+use Rattle.sheet.proofs.Measuring.{clear-front, clear-beyond, words-length, slots-length}
+
+-- ── numbers 1 to 5 ──
+
+five : (a b c d e : Bool) → judge (test 1 a ∷ test 2 b ∷ test 3 c ∷ test 4 d ∷ test 5 e ∷ []) .number ≤ 5
+five false b c d e = omega arith
+five true false c d e = omega arith
+five true true false d e = omega arith
+five true true true false e = omega arith
+five true true true true false = omega arith
+five true true true true true = omega arith
+
+-- a number 1 to 5 is none of those that leave the work room clear, nor of those with counts
+early : (r : ℕ) → (r ≡ 0 → ⊥) → r ≤ 5 → (isIn (0 ∷ 6 ∷ 7 ∷ []) r ≡ false) × (isIn (0 ∷ 6 ∷ 7 ∷ 17 ∷ 18 ∷ 19 ∷ []) r ≡ false)
+early zero h l = absurd (h refl)
+early (suc zero) h l = (refl, refl)
+early (suc (suc zero)) h l = (refl, refl)
+early (suc (suc (suc zero))) h l = (refl, refl)
+early (suc (suc (suc (suc zero)))) h l = (refl, refl)
+early (suc (suc (suc (suc (suc zero))))) h l = (refl, refl)
+early (suc (suc (suc (suc (suc (suc r)))))) h l = absurd (omega arith)
+
+module _ (L : Lattice) (s : Start) (l : Lent) where
+  abbrev z : Sizes
+  z = L .size
+
+  abbrev tests : List Test
+  tests = sampleTests L s (length (l .words)) (length (l .waiting)) (length (l .slots))
+
+  abbrev S : Sheet
+  S = sheetOf L (startOf L s)
+
+  numbered-tests : Numbered tests
+  unfolding sampleTests
+  numbered-tests = (omega arith, (omega arith, (omega arith, (omega arith, (omega arith, tt)))))
+
+  small : judge tests .number ≤ 5
+  unfolding sampleTests
+  small =
+      five (axes z) (eqb (length (L .values)) (samples z)) (roomy z (length (l .words)) (length (l .waiting)) (length (l .slots)))
+      (named z s) (starts L s)
+
+  -- what is left and answered, at a number
+  left-at : (k : ℕ) → buildNumber L s l ≡ k
+      → lentAfter L s l
+      ≡ lent (outputAfter k (vertexWords L S) (l .vertices)) (outputAfter k (triangleWords S) (l .triangles))
+      (workAfter k (needed z) (l .words)) (workAfter k (needed z) (l .waiting)) (workAfter k (neededSlots z) (l .slots))
+  unfolding lentAfter
+  left-at k e =
+      ap (λ (k : ℕ).
+      lent (outputAfter k (vertexWords L S) (l .vertices)) (outputAfter k (triangleWords S) (l .triangles))
+      (workAfter k (needed z) (l .words)) (workAfter k (needed z) (l .waiting)) (workAfter k (neededSlots z) (l .slots))) e
+
+  answer-at : (k : ℕ) → buildNumber L s l ≡ k → built L s l ≡ cond (isIn (0 ∷ 6 ∷ 7 ∷ []) k) (counted k S) (uncounted k)
+  unfolding built
+  answer-at k e = ap (λ (k : ℕ). cond (isIn (0 ∷ 6 ∷ 7 ∷ []) k) (counted k S) (uncounted k)) e
+
+  -- a refusal of the samples touches nothing
+  pub refused : (r : ℕ) → r ≡ judge tests .number → (r ≡ 0 → ⊥) → Builds L s l (uncounted r) l
+  unfolding buildNumber outputAfter workAfter
+  refused r e h =
+      let n : buildNumber L s l ≡ r =
+      ap (λ (v : _). v .number) (judge-stop tests (roomTests S (vertexRoom (l .vertices)) (triangleRoom (l .triangles))) (λ q. h (e ∙ q))) ∙ sym e in
+      let w = early r h (omega (arith, e, small)) in
+      let q = ne-eqb r 0 h in
+      record {
+        answer = sym (answer-at r n ∙ ap (λ (b : Bool). cond b (counted r S) (uncounted r)) (w .0));
+        left =
+            sym (left-at r n
+            ∙ (λ i.
+            lent (cond (q i) (over (vertexWords L S) (l .vertices)) (l .vertices)) (cond (q i) (over (triangleWords S) (l .triangles)) (l .triangles))
+            (cond (w .1 i) (cleared (needed z) (l .words)) (l .words)) (cond (w .1 i) (cleared (needed z) (l .waiting)) (l .waiting))
+            (cond (w .1 i) (cleared (neededSlots z) (l .slots)) (l .slots))));
+      }
+
+  -- ── 6, 7 and 0 ──
+
+  module _ (passed : judge tests .number ≡ 0) where
+    room-number : buildNumber L s l ≡ judge (roomTests S (vertexRoom (l .vertices)) (triangleRoom (l .triangles))) .number
+    unfolding buildNumber
+    room-number =
+        ap (λ (v : _). v .number) (judge-past tests (roomTests S (vertexRoom (l .vertices)) (triangleRoom (l .triangles))) numbered-tests passed)
+
+    number-6 : vertexRoom (l .vertices) < length (S .edges) → buildNumber L s l ≡ 6
+    unfolding roomTests
+    number-6 h = room-number ∙ rw (lt-leb (length (S .edges)) (vertexRoom (l .vertices)) h)
+
+    number-7 : length (S .edges) ≤ vertexRoom (l .vertices) → triangleRoom (l .triangles) < length (S .triangles) → buildNumber L s l ≡ 7
+    unfolding roomTests
+    number-7 g h =
+        room-number
+        ∙ rw (le-leb (length (S .edges)) (vertexRoom (l .vertices)) g, lt-leb (length (S .triangles)) (triangleRoom (l .triangles)) h)
+
+    number-0 : length (S .edges) ≤ vertexRoom (l .vertices) → length (S .triangles) ≤ triangleRoom (l .triangles) → buildNumber L s l ≡ 0
+    unfolding roomTests
+    number-0 g h =
+        room-number
+        ∙ rw (le-leb (length (S .edges)) (vertexRoom (l .vertices)) g, le-leb (length (S .triangles)) (triangleRoom (l .triangles)) h)
+
+    -- the measured sheet is that of the start, and the work room is clear at its front
+    module _ (k : ℕ) (is : k ≡ startOf L s) (c : Counts) (words waiting slots : List ℕ)
+        (m : Measured L k (l .words) (l .waiting) (l .slots) words waiting slots c) (words′ waiting′ slots′ : List ℕ)
+        (cw : words′ ≡ cleared (needed z) words) (cq : waiting′ ≡ cleared (needed z) waiting) (cs : slots′ ≡ cleared (neededSlots z) slots) where
+      counts-are : c ≡ countsOf S
+      counts-are = m .counts ∙ ap (λ (k : ℕ). countsOf (sheetOf L k)) is
+
+      pub vertices-are : c .vertices ≡ length (S .edges)
+      vertices-are = ap (λ (c : Counts). c .vertices) counts-are
+
+      pub triangles-are : c .triangles ≡ length (S .triangles)
+      triangles-are = ap (λ (c : Counts). c .triangles) counts-are
+
+      words-clear : words′ ≡ cleared (needed z) (l .words)
+      words-clear = cw ∙ clear-front (needed z) (wordsOf L (visited L k)) (l .words) words (words-length L (visited L k)) (m .marked)
+
+      waiting-clear : waiting′ ≡ cleared (needed z) (l .waiting)
+      waiting-clear = cq ∙ clear-beyond (needed z) (l .waiting) waiting (m .beyond)
+
+      slots-clear : slots′ ≡ cleared (neededSlots z) (l .slots)
+      slots-clear =
+          cs ∙ clear-front (neededSlots z) (slotsOf z (sheetOf L k .edges)) (l .slots) slots (slots-length z (sheetOf L k .edges)) (m .numbered)
+
+      answered : (n : ℕ) → buildNumber L s l ≡ n → isIn (0 ∷ 6 ∷ 7 ∷ []) n ≡ true
+          → record { number = n; vertices = c .vertices; triangles = c .triangles; cubes = c .cubes } ≡ built L s l
+      answered n e t =
+          (λ i. let d = counts-are i in record { number = n; vertices = d .vertices; triangles = d .triangles; cubes = d .cubes })
+          ∙ sym (answer-at n e ∙ ap (λ (b : Bool). cond b (counted n S) (uncounted n)) t)
+
+      pub refused-6 : vertexRoom (l .vertices) < c .vertices
+          → Builds L s l (record { number = 6; vertices = c .vertices; triangles = c .triangles; cubes = c .cubes }) (lent (l .vertices) (l .triangles) words′ waiting′ slots′)
+      unfolding outputAfter workAfter
+      refused-6 h =
+          let n = number-6 (omega (arith, vertices-are)) in
+          record {
+            answer = answered 6 n refl;
+            left = (λ i. lent (l .vertices) (l .triangles) (words-clear i) (waiting-clear i) (slots-clear i)) ∙ sym (left-at 6 n);
+          }
+
+      pub refused-7 : c .vertices ≤ vertexRoom (l .vertices) → triangleRoom (l .triangles) < c .triangles
+          → Builds L s l (record { number = 7; vertices = c .vertices; triangles = c .triangles; cubes = c .cubes }) (lent (l .vertices) (l .triangles) words′ waiting′ slots′)
+      unfolding outputAfter workAfter
+      refused-7 g h =
+          let n = number-7 (omega (arith, vertices-are)) (omega (arith, triangles-are)) in
+          record {
+            answer = answered 7 n refl;
+            left = (λ i. lent (l .vertices) (l .triangles) (words-clear i) (waiting-clear i) (slots-clear i)) ∙ sym (left-at 7 n);
+          }
+
+      pub succeeded : c .vertices ≤ vertexRoom (l .vertices) → c .triangles ≤ triangleRoom (l .triangles) → (vs : List ℤ) (ts : List ℕ)
+          → vs ≡ over (vertexWords L (sheetOf L k)) (l .vertices) → ts ≡ over (triangleWords (sheetOf L k)) (l .triangles)
+          → Builds L s l (record { number = 0; vertices = c .vertices; triangles = c .triangles; cubes = c .cubes }) (lent vs ts words′ waiting′ slots′)
+      unfolding outputAfter workAfter
+      succeeded g h vs ts ev et =
+          let n = number-0 (omega (arith, vertices-are)) (omega (arith, triangles-are)) in
+          let fv = ev ∙ ap (λ (k : ℕ). over (vertexWords L (sheetOf L k)) (l .vertices)) is in
+          let ft = et ∙ ap (λ (k : ℕ). over (triangleWords (sheetOf L k)) (l .triangles)) is in
+          record {
+            answer = answered 0 n refl;
+            left = (λ i. lent (fv i) (ft i) (words-clear i) (waiting-clear i) (slots-clear i)) ∙ sym (left-at 0 n);
+          }
+
+-- any two outcomes that the contract of a build allows agree
+pub builds-agree : (L : Lattice) (s : Start) (before : Lent) (r₁ r₂ : Built) (after₁ after₂ : Lent) → Builds L s before r₁ after₁ → Builds L s before r₂ after₂
+    → (r₁ ≡ r₂) × (after₁ ≡ after₂)
+builds-agree L s before r₁ r₂ after₁ after₂ a b = (a .answer ∙ sym (b .answer), a .left ∙ sym (b .left))

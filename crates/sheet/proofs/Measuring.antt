@@ -1,0 +1,91 @@
+-- A flood, marks and numbers leave the sheet measured. Assumes nothing.
+use mathlib.Core.Path.{_≡_, refl, sym, ap, subst, _∙_}
+use mathlib.Core.Bool.{Bool, cond}
+use mathlib.Core.List.{List, _++_, map}
+use Prim.Native.Nat.{ℕ, _+_, _*_, _≤_, _<_}
+use native.Mathlib.Omega.{arith}
+use lib.Dec.{T}
+use lib.ListN.{length, drop, replicate, length-replicate, length-map}
+use lib.Seq.{drop-at}
+use Rattle.lists.specs.Lists.{range, keep, each, isIn, rank, over, cleared}
+use Rattle.lists.proofs.Every.{All, in-all, all-in}
+use Rattle.lists.proofs.Closure.{keep-same}
+use Rattle.lists.proofs.Runs.{length-along}
+use Rattle.paper.specs.declared.Sizes.{Sizes}
+use Rattle.paper.specs.Lattice.{Lattice, cubes, visited}
+use Rattle.paper.specs.Sheet.{cubeEdges, vertexEdges, cubeTriangles, numbered, sheetOf}
+use Rattle.paper.specs.Build.{needed, neededSlots}
+use Rattle.paper.specs.Within.{Sized}
+use Rattle.paper.proofs.Listing.{edges-exactly, edges-lt, visits-lt}
+use Rattle.flood.specs.Flooded.{wordOf, wordsOf, Beyond}
+use Rattle.survey.specs.Marks.{marks, usedOf, edgesUpto, trianglesUpto, numberIn}
+use Rattle.sheet.specs.Measured.{slotsOf}
+use Rattle.sheet.proofs.Words.{all-triangles, all-edges}
+use Rattle.sheet.proofs.Slots.{used-is, numbers-are}
+
+module _ (L : Lattice) (s : Sized (L .size)) (start : ℕ) (words w₀ : List ℕ) (e : words ≡ over (wordsOf L (visited L start)) w₀) where
+  abbrev z : Sizes
+  z = L .size
+
+  abbrev vs : List ℕ
+  vs = visited L start
+
+  abbrev marked : List ℕ
+  marked = edgesUpto z words (cubes z)
+
+  below : All (λ e. e < neededSlots z) marked
+  below =
+      in-all (λ e. e < neededSlots z) marked
+      (λ k t.
+      all-in (λ e. e < neededSlots z) (vertexEdges L vs) (edges-lt L vs) k
+      (subst T (all-edges L start words w₀ e k ∙ sym (edges-exactly L s vs (visits-lt L s start) k)) t))
+
+  edges-are : keep (isIn marked) (range 0 (neededSlots z)) ≡ sheetOf L start .edges
+  unfolding sheetOf vertexEdges
+  edges-are = keep-same (isIn marked) (isIn (each (cubeEdges L) vs)) (range 0 (neededSlots z)) (λ k t. all-edges L start words w₀ e k)
+
+  module _ (n : ℕ) (en : n ≡ neededSlots z) (s₀ s₁ s₂ s₃ : List ℕ) (fits : neededSlots z ≤ length s₀) (a : s₁ ≡ cleared n s₀)
+      (b : s₂ ≡ marks marked s₁) where
+    from : s₂ ≡ marks marked (cleared (neededSlots z) s₀)
+    from = b ∙ ap (marks marked) (a ∙ ap (λ (m : ℕ). cleared m s₀) en)
+
+    pub slots-numbered : s₃ ≡ map (numberIn s₂) (range 0 n) ++ drop n s₂ → s₃ ≡ over (slotsOf z (sheetOf L start .edges)) s₀
+    unfolding slotsOf
+    slots-numbered c =
+        c
+        ∙ ((λ i. map (numberIn (from i)) (range 0 (en i)) ++ drop (en i) (from i))
+        ∙ (numbers-are (neededSlots z) s₀ marked fits below ∙ ap (λ (es : List ℕ). over (map (λ e. cond (isIn es e) (rank es e + 1) 0) (range 0 (neededSlots z))) s₀) edges-are))
+
+    pub vertices-counted : length (usedOf s₂ n) ≡ length (sheetOf L start .edges)
+    vertices-counted =
+        (λ i. length (usedOf (from i) (en i))) ∙ ap length (used-is (neededSlots z) s₀ marked fits below (neededSlots z) (omega arith) ∙ edges-are)
+
+  pub triangles-counted : length (trianglesUpto z words (cubes z)) ≡ length (sheetOf L start .triangles)
+  unfolding sheetOf
+  triangles-counted =
+      ap length (all-triangles L start words w₀ e) ∙ sym (length-map (each (cubeTriangles L) vs) (numbered (vertexEdges L vs)))
+
+  pub triangles-listed : trianglesUpto z words (cubes z) ≡ sheetOf L start .byEdge
+  unfolding sheetOf
+  triangles-listed = all-triangles L start words w₀ e
+
+  pub visits-counted : length vs ≡ sheetOf L start .visits
+  unfolding sheetOf
+  visits-counted = refl
+
+-- ── clearing undoes all of it ──
+
+pub clear-front : (n : ℕ) (front l m : List ℕ) → length front ≡ n → m ≡ over front l → cleared n m ≡ cleared n l
+clear-front n front l m h e =
+    ap (λ (r : List ℕ). replicate n 0 ++ r) (ap (drop n) e ∙ (drop-at front (drop (length front) l) n h ∙ ap (λ (k : ℕ). drop k l) h))
+
+pub clear-beyond : (n : ℕ) (l m : List ℕ) → Beyond n l m → cleared n m ≡ cleared n l
+clear-beyond n l m b = ap (λ (r : List ℕ). replicate n 0 ++ r) (b .rest)
+
+pub words-length : (L : Lattice) (vs : List ℕ) → length (wordsOf L vs) ≡ needed (L .size)
+unfolding wordsOf
+words-length L vs = length-along (λ k. cond (isIn vs k) (wordOf L k) 0) 0 (cubes (L .size))
+
+pub slots-length : (z : Sizes) (es : List ℕ) → length (slotsOf z es) ≡ neededSlots z
+unfolding slotsOf
+slots-length z es = length-along (λ e. cond (isIn es e) (rank es e + 1) 0) 0 (neededSlots z)
