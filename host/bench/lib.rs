@@ -18,10 +18,20 @@ extern "C" {
     fn second_init();
     #[rustfmt::skip]
     fn second_build(
-        size: *const u16, samples: *const i16, sample_count: usize, start: *const u16,
-        words: *mut u16, word_count: usize, waiting: *mut u32, waiting_count: usize,
-        slots: *mut u32, slot_count: usize, vertices: *mut i32, vertex_count: usize,
-        triangles: *mut u32, triangle_count: usize,
+        size: *const u16,
+        samples: *const i16,
+        sample_count: usize,
+        start: *const u16,
+        words: *mut u16,
+        word_count: usize,
+        waiting: *mut u32,
+        waiting_count: usize,
+        slots: *mut u32,
+        slot_count: usize,
+        vertices: *mut i32,
+        vertex_count: usize,
+        triangles: *mut u32,
+        triangle_count: usize,
     ) -> Answer;
 }
 

@@ -103,8 +103,7 @@ pub fn parse(bytes: &[u8]) -> Result<Content, (usize, usize)> {
     }
     let (front, back) = body.split_at(body.len() - to_triangles as usize);
     let numbers: Vec<i32> = words(front).into_iter().map(|word| word as i32).collect();
-    let content =
-        Content { sizes, records: groups(&numbers, v as usize), triangles: groups(&words(back), t as usize) };
+    let content = Content { sizes, records: groups(&numbers, v as usize), triangles: groups(&words(back), t as usize) };
     match stray_index(content.records.len(), &content.triangles) {
         Some(place) => Err((15, place)),
         None => Ok(content),

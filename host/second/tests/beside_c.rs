@@ -21,9 +21,12 @@ impl Numbers {
 fn both(sizes: [u16; 3], start: Option<[u16; 3]>, samples: &[i16], room: [usize; 2]) {
     let wide = |triple: [u16; 3]| triple.map(usize::from);
     let count: usize = wide(sizes).iter().product();
-    let lend = || (vec![1i32; room[0]], vec![2u32; room[1]], vec![3u16; count + 2], vec![4u32; count], vec![5u32; 7 * count + 1]);
+    let lend = || {
+        (vec![1i32; room[0]], vec![2u32; room[1]], vec![3u16; count + 2], vec![4u32; count], vec![5u32; 7 * count + 1])
+    };
     let mut c = lend();
-    let lent = baseline::Lent { vertices: &mut c.0, triangles: &mut c.1, words: &mut c.2, waiting: &mut c.3, slots: &mut c.4 };
+    let lent =
+        baseline::Lent { vertices: &mut c.0, triangles: &mut c.1, words: &mut c.2, waiting: &mut c.3, slots: &mut c.4 };
     let by_c = baseline::build(sizes, start, samples, lent);
     let mut r = lend();
     let mut work = Work { words: &mut r.2, waiting: &mut r.3, slots: &mut r.4 };
@@ -39,9 +42,11 @@ fn small_lattices() {
         let sizes = [(); 3].map(|_| 2 + n.below(5) as u16);
         let count: usize = sizes.iter().map(|&axis| usize::from(axis)).product();
         let spread = [3, 5, 200, 65_536][n.below(4) as usize];
-        let samples: Vec<i16> = (0..count).map(|_| (n.below(spread) as i64 - spread as i64 / 2).clamp(-32768, 32767) as i16).collect();
+        let samples: Vec<i16> =
+            (0..count).map(|_| (n.below(spread) as i64 - spread as i64 / 2).clamp(-32768, 32767) as i16).collect();
         let start = if n.below(2) == 0 { None } else { Some(sizes.map(|axis| n.below(u64::from(axis)) as u16)) };
-        let room = if n.below(8) == 0 { [n.below(400) as usize, n.below(800) as usize] } else { [28 * count, 36 * count] };
+        let room =
+            if n.below(8) == 0 { [n.below(400) as usize, n.below(800) as usize] } else { [28 * count, 36 * count] };
         both(sizes, start, &samples, room);
     }
 }
