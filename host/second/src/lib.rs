@@ -16,5 +16,5 @@ pub use build::{build, Built, Volume, Work};
 pub use check::{check, Verdict};
 pub use file::{parse, read, serialize, write, Content, Got, Wrote};
 pub use lattice::{Lattice, Point};
-pub use list::listing;
+pub use list::{listing, volume};
 pub use sheet::{crossing, Edge, Sheet};

@@ -1,7 +1,7 @@
 //! The sheet of a lattice and a start cube: visited cubes, vertices by edge, triangles by edges.
 
 use crate::lattice::{Lattice, Point, STEPS};
-use std::collections::{BTreeMap, BTreeSet};
+use std::collections::{BTreeMap, BTreeSet, HashMap};
 
 /// Corners a, b, c, d of each tetrahedron.
 const TETRAHEDRA: [[&str; 4]; 6] = [
@@ -72,8 +72,9 @@ pub fn crossing(solid: i64, air: i64) -> i64 {
     (65_536 * -solid).div_euclid(air - solid)
 }
 
-/// Where the sheet crosses between two samples on different sides.
-fn position(lattice: &Lattice, p: Point, q: Point) -> [i64; 3] {
+/// Where the sheet crosses an edge whose ends are on different sides.
+fn position(lattice: &Lattice, edge: Edge) -> [i64; 3] {
+    let [p, q] = KINDS[edge.kind as usize].map(|(x, y, z)| edge.anchor.plus(Point::new(x, y, z)));
     let (solid, air) = if lattice.air(p) { (q, p) } else { (p, q) };
     let t = crossing(lattice.sample(solid), lattice.sample(air));
     let towards = air.minus(solid);
@@ -94,7 +95,22 @@ fn ends(tetrahedron: &[Point; 4], edge: usize) -> (Point, Point) {
     }
 }
 
-#[derive(Default)]
+/// The edges of a tetrahedron whose ends are on different sides.
+fn crossed_edges(lattice: &Lattice, tetrahedron: &[Point; 4]) -> Vec<Edge> {
+    let both = (1..=6).map(|edge| ends(tetrahedron, edge));
+    both.filter(|(p, q)| lattice.air(*p) != lattice.air(*q)).map(|(p, q)| Edge::between(p, q)).collect()
+}
+
+/// The triangles of a tetrahedron, by edges.
+fn cut(lattice: &Lattice, tetrahedron: &[Point; 4]) -> Vec<[Edge; 3]> {
+    let row = tetrahedron.iter().fold(0, |row, &c| 2 * row + usize::from(lattice.air(c)));
+    let edge = |edge| {
+        let (p, q) = ends(tetrahedron, edge);
+        Edge::between(p, q)
+    };
+    ROWS[row].iter().map(|triangle| triangle.map(edge)).collect()
+}
+
 pub struct Sheet {
     pub visited: BTreeSet<Point>,
     /// Each vertex's position by its edge, by rising edge number.
@@ -105,30 +121,23 @@ pub struct Sheet {
 
 impl Sheet {
     pub fn of(lattice: &Lattice, start: Point) -> Sheet {
-        let mut sheet = Sheet { visited: reached(lattice, start), ..Sheet::default() };
         let tetrahedra = TETRAHEDRA.map(|names| names.map(corner));
-        for cube in sheet.visited.clone() {
+        let visited = reached(lattice, start);
+        let mut edges = Vec::new();
+        let mut triangles = Vec::new();
+        for cube in &visited {
+            let mut own = BTreeSet::new();
             for tetrahedron in &tetrahedra {
-                sheet.add(lattice, &tetrahedron.map(|c| cube.plus(c)));
+                let tetrahedron = tetrahedron.map(|c| cube.plus(c));
+                own.extend(crossed_edges(lattice, &tetrahedron));
+                triangles.extend(cut(lattice, &tetrahedron));
             }
+            edges.extend(own);
         }
-        sheet
-    }
-
-    fn add(&mut self, lattice: &Lattice, tetrahedron: &[Point; 4]) {
-        for edge in 1..=6 {
-            let (p, q) = ends(tetrahedron, edge);
-            if lattice.air(p) != lattice.air(q) {
-                self.vertices.entry(Edge::between(p, q)).or_insert_with(|| position(lattice, p, q));
-            }
-        }
-        let row = tetrahedron.iter().fold(0, |row, &c| 2 * row + usize::from(lattice.air(c)));
-        for triangle in ROWS[row] {
-            self.triangles.push(triangle.map(|edge| {
-                let (p, q) = ends(tetrahedron, edge);
-                Edge::between(p, q)
-            }));
-        }
+        edges.sort_unstable();
+        edges.dedup();
+        let vertices = edges.into_iter().map(|edge| (edge, position(lattice, edge))).collect();
+        Sheet { visited, vertices, triangles }
     }
 
     /// The vertex records: edge, x, y, z.
@@ -139,7 +148,7 @@ impl Sheet {
 
     /// The triangles by vertex numbers.
     pub fn indexed(&self) -> Vec<[u32; 3]> {
-        let numbers: BTreeMap<Edge, u32> = self.vertices.keys().copied().zip(0..).collect();
+        let numbers: HashMap<Edge, u32> = self.vertices.keys().copied().zip(0..).collect();
         self.triangles.iter().map(|triangle| triangle.map(|edge| numbers[&edge])).collect()
     }
 }
