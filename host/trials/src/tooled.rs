@@ -47,7 +47,7 @@ const SHEETS: [&str; 3] = ["s.sheet", "t.sheet", "old.sheet"];
 const OTHERS: [&str; 6] = ["missing", "folder", "folder/new", "missing/new", "v.raw/new", "new.sheet"];
 
 fn volume_name(random: &mut Random) -> &'static str {
-    if random.once_in(8) {
+    if random.once_in(16) {
         random.pick(&OTHERS)
     } else {
         random.pick(&VOLUMES)
@@ -55,7 +55,7 @@ fn volume_name(random: &mut Random) -> &'static str {
 }
 
 fn sheet_name(random: &mut Random) -> &'static str {
-    match random.below(10) {
+    match random.below(14) {
         0 => random.pick(&OTHERS),
         1 => random.pick(&VOLUMES),
         _ => random.pick(&SHEETS),
@@ -107,7 +107,8 @@ fn prepare(random: &mut Random, about: &Case) -> std::io::Result<Manifest> {
 
 fn random_start_word(random: &mut Random, start: Start) -> String {
     match start {
-        Some([x, y, z]) if !random.once_in(4) => format!("{x},{y},{z}"),
+        Some([x, y, z]) if !random.once_in(8) => format!("{x},{y},{z}"),
+        None if random.once_in(2) => "0,0,0".into(),
         _ => random
             .pick(&["0,0,0", "1,0,0", "63,63,63", "99999999999999999999999,0,0", "1,1", "", "a,b,c", "-1,0,0"])
             .into(),
@@ -124,7 +125,8 @@ fn words(random: &mut Random, start: Start) -> Vec<OsString> {
         5 => vec!["audit".into(), "m.txt".into()],
         _ => return (0..random.below(6)).map(|_| any_word(random, start)).collect(),
     };
-    if random.once_in(2) {
+    let takes_start = words[0] != "show" && words[0] != "audit";
+    if random.once_in(if takes_start { 2 } else { 30 }) {
         words.push("--start".into());
         words.push(random_start_word(random, start).into());
     }
