@@ -38,6 +38,8 @@ int memcmp(const void *a, const void *b, usize n)
     return 0;
 }
 
+int bcmp(const void *a, const void *b, usize n) { return memcmp(a, b, n); }
+
 static long call(long number, long a, long b, long c, long d, long e, long f)
 {
     long answer;

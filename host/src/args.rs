@@ -2,9 +2,9 @@
 
 use crate::abi::Place;
 use crate::failure::Failure;
-use std::ffi::{OsStr, OsString};
+use std::ffi::OsString;
 use std::os::unix::ffi::OsStrExt;
-use std::path::PathBuf;
+use std::path::{Path, PathBuf};
 
 #[derive(Debug, PartialEq, Eq)]
 pub enum Command {
@@ -69,7 +69,7 @@ fn rest(args: &[OsString], takes_start: bool) -> Result<Rest, Failure> {
                 return usage("--start is given twice");
             }
         } else {
-            return usage(format!("there is no option {}", arg.display()));
+            return usage(format!("there is no option {}", Path::new(arg).display()));
         }
     }
     Ok(rest)
@@ -90,7 +90,7 @@ pub fn parse(args: &[OsString]) -> Result<Command, Failure> {
         Some("build" | "check" | "list") => true,
         Some("show" | "audit") => false,
         Some("--help" | "-h") => return Ok(Command::Help(help)),
-        _ => return usage(format!("there is no command {}", OsStr::new(name).display())),
+        _ => return usage(format!("there is no command {}", Path::new(name).display())),
     };
     let rest = rest(behind, takes_start)?;
     if rest.help {

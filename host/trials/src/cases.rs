@@ -111,7 +111,7 @@ fn random_samples(random: &mut Random, sizes: [usize; 3]) -> Vec<i16> {
                 (1000.0 * (radius - far)) as i16
             }
             _ => {
-                if rare % 2 == 0 {
+                if rare < 12 {
                     0
                 } else {
                     1
@@ -202,26 +202,33 @@ impl Lent {
         }
     }
 
-    /// Dirty room: work slices of the needed length, longer, or now and then too short; so many numbers of output.
+    /// Dirty room: work slices of the needed length or longer, and so many numbers of output.
     pub fn dirty(random: &mut Random, sizes: [usize; 3], output: [usize; 2]) -> Lent {
+        let mut length = |need: usize| if random.once_in(3) { need + random.below(20) } else { need };
         let cubes = cube_count(sizes);
-        let mut lengths = [cubes, cubes, 7 * sample_count(sizes)].map(|need| match random.below(3) {
-            0 => need + random.below(20),
-            _ => need,
-        });
-        if random.once_in(12) {
-            let short = random.below(3);
-            lengths[short] = match random.below(3) {
-                0 => random.below(lengths[short] + 1),
-                _ => [cubes, cubes, 7 * sample_count(sizes)][short] - 1,
-            };
+        let lengths = [cubes, cubes, 7 * sample_count(sizes)].map(&mut length);
+        Lent::with_lengths(random, lengths, output)
+    }
+
+    /// Dirty room, now and then with a work slice that is too short.
+    pub fn doubtful(random: &mut Random, sizes: [usize; 3], output: [usize; 2]) -> Lent {
+        if !random.once_in(12) {
+            return Lent::dirty(random, sizes, output);
         }
+        let cubes = cube_count(sizes);
+        let mut lengths = [cubes, cubes, 7 * sample_count(sizes)];
+        let short = &mut lengths[random.below(3)];
+        *short = if random.once_in(3) { random.below(*short) } else { *short - 1 };
+        Lent::with_lengths(random, lengths, output)
+    }
+
+    fn with_lengths(random: &mut Random, work: [usize; 3], output: [usize; 2]) -> Lent {
         Lent {
             vertices: Guarded::new(random, output[0], |r| r.bits() as i32),
             triangles: Guarded::new(random, output[1], |r| r.bits() as u32),
-            words: Guarded::new(random, lengths[0], |r| r.bits() as u16),
-            waiting: Guarded::new(random, lengths[1], |r| r.bits() as u32),
-            slots: Guarded::new(random, lengths[2], |r| r.bits() as u32),
+            words: Guarded::new(random, work[0], |r| r.bits() as u16),
+            waiting: Guarded::new(random, work[1], |r| r.bits() as u32),
+            slots: Guarded::new(random, work[2], |r| r.bits() as u32),
         }
     }
 
@@ -235,6 +242,13 @@ impl Lent {
         let Lent { vertices, triangles, words, waiting, slots } = self;
         let mut work = second::Work { words: words.lend(), waiting: waiting.lend(), slots: slots.lend() };
         second::build(case.volume(), vertices.lend(), triangles.lend(), &mut work)
+    }
+
+    /// What a build has left, as a file's content.
+    pub fn content(&mut self, case: &Case, built: &second::Built) -> second::Content {
+        let records = self.vertices.lend().chunks_exact(4).take(built.vertices).map(|r| [r[0], r[1], r[2], r[3]]);
+        let triangles = self.triangles.lend().chunks_exact(3).take(built.triangles).map(|t| [t[0], t[1], t[2]]);
+        second::Content { sizes: case.sizes, records: records.collect(), triangles: triangles.collect() }
     }
 
     pub fn library_check(&mut self, case: &Case, file: &[u8]) -> host::abi::Verdict {
@@ -270,11 +284,6 @@ pub fn output_room(random: &mut Random, vertices: usize, triangles: usize) -> [u
 /// The sheet of a case as a file's content, where it has one.
 pub fn content(case: &Case) -> Option<second::Content> {
     let mut lent = Lent::clean(case.sizes, [28 * sample_count(case.sizes), 36 * cube_count(case.sizes)]);
-    let counts = lent.second_build(case);
-    if counts.number != 0 {
-        return None;
-    }
-    let records = lent.vertices.lend().chunks_exact(4).take(counts.vertices).map(|r| [r[0], r[1], r[2], r[3]]);
-    let triangles = lent.triangles.lend().chunks_exact(3).take(counts.triangles).map(|t| [t[0], t[1], t[2]]);
-    Some(second::Content { sizes: case.sizes, records: records.collect(), triangles: triangles.collect() })
+    let built = lent.second_build(case);
+    (built.number == 0).then(|| lent.content(case, &built))
 }

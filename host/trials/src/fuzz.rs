@@ -3,6 +3,8 @@
 use crate::random::Random;
 use crate::{hold, tooled};
 use std::collections::BTreeMap;
+use std::fs::File;
+use std::os::unix::fs::FileExt;
 use std::panic::{catch_unwind, AssertUnwindSafe};
 use std::sync::atomic::{AtomicU64, Ordering};
 use std::sync::Arc;
@@ -40,13 +42,16 @@ fn watch(round: Arc<AtomicU64>) {
     });
 }
 
-/// Runs rounds in the current folder, whose files it removes. An error names the round that failed.
+/// Runs rounds in the current folder, whose files it removes. An error names the round that failed; after a crash the
+/// file `round` beside the folder does.
 pub fn run(rounds: u64, seed: u64) -> Result<Counts, String> {
     let now = Arc::new(AtomicU64::new(0));
     watch(now.clone());
+    let log = File::create("../round").map_err(|error| error.to_string())?;
     let mut counts = Counts::new();
     for round in 0..rounds {
         now.store(round, Ordering::Relaxed);
+        log.write_all_at(format!("{round:20} of seed {seed}\n").as_bytes(), 0).map_err(|error| error.to_string())?;
         let (name, trial) = TRIALS[(round % TRIALS.len() as u64) as usize];
         let mut random = Random::new(seed.wrapping_add(round));
         match catch_unwind(AssertUnwindSafe(|| trial(&mut random))) {
@@ -58,10 +63,12 @@ pub fn run(rounds: u64, seed: u64) -> Result<Counts, String> {
     Ok(counts)
 }
 
-/// A new empty folder, made the current one.
+/// A new folder with an empty one inside, which is made the current one. The outer is returned.
 pub fn enter_new_folder() -> std::io::Result<std::path::PathBuf> {
     let folder = std::env::temp_dir().join(format!("malxuqeed-fuzz-{}", std::process::id()));
+    let files = folder.join("files");
     std::fs::create_dir(&folder)?;
-    std::env::set_current_dir(&folder)?;
+    std::fs::create_dir(&files)?;
+    std::env::set_current_dir(&files)?;
     Ok(folder)
 }

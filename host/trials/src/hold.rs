@@ -16,7 +16,7 @@ pub fn build(random: &mut Random) -> usize {
     let case = case(random);
     let counts = sheet_counts(&case);
     let room = output_room(random, counts.vertices, counts.triangles);
-    let mut ours = Lent::dirty(random, case.sizes, room);
+    let mut ours = Lent::doubtful(random, case.sizes, room);
     let mut theirs = ours.clone();
     let answer = ours.library_build(&case);
     assert_eq!(answer, built(theirs.second_build(&case)), "{case:?} {room:?}");
@@ -37,7 +37,7 @@ pub fn check(random: &mut Random) -> usize {
             about.start = other.start;
         }
     }
-    let mut ours = Lent::dirty(random, about.sizes, [0, 0]);
+    let mut ours = Lent::doubtful(random, about.sizes, [0, 0]);
     let mut theirs = ours.clone();
     let answer = ours.library_check(&about, &file);
     let second::Verdict { number, place } = theirs.second_check(&about, &file);

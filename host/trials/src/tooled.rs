@@ -36,10 +36,13 @@ fn expected(status: u8, output: impl Into<String>) -> Expected {
     Expected { status, output: Output::Exact(output.into()), written: None }
 }
 
-/// A manifest with what each of its lines asks for.
+/// What a line of a manifest asks for: volume, sheet, start.
+type Entry = (&'static str, &'static str, Start);
+
+/// A manifest, and its lines with what each asks for; a wrong line asks for nothing.
 struct Manifest {
     text: Vec<u8>,
-    lines: Vec<(String, Option<(&'static str, &'static str, Start)>)>,
+    lines: Vec<(String, Option<Entry>)>,
 }
 
 const VOLUMES: [&str; 3] = ["v.raw", "w.raw", "x y.raw"];

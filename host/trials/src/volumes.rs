@@ -47,7 +47,7 @@ pub fn tray() -> Case {
     for i in 0..4 {
         for j in 0..2 {
             let centre = [8.0 + 16.0 * f64::from(i), 16.0 + 32.0 * f64::from(j)];
-            let phase = [(); 4].map(|_| random.unit() * 6.28);
+            let phase = [(); 4].map(|_| random.unit() * std::f64::consts::TAU);
             let mut about = |middle: f64, spread: f64| middle + (2.0 * random.unit() - 1.0) * spread;
             let pore = [about(centre[0], 1.0), about(centre[1], 4.0), about(32.0, 10.0)];
             castings.push(Casting { centre, phase, pore, radius: 3.2 + random.unit() * 0.7 });
