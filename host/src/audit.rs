@@ -9,6 +9,7 @@ use crate::room::Room;
 use crate::tool::{check, Ended, Streams};
 use std::collections::BTreeMap;
 use std::ffi::OsStr;
+use std::fs::File;
 use std::io::Write;
 use std::os::unix::ffi::OsStrExt;
 use std::path::{Path, PathBuf};
@@ -77,7 +78,7 @@ impl Counts {
 }
 
 pub fn run(manifest: &Path, streams: &mut Streams) -> Result<Ended, Failure> {
-    let read = files::read_whole(manifest, LONGEST_MANIFEST);
+    let read = File::open(manifest).and_then(|file| files::read_whole(file, LONGEST_MANIFEST));
     let manifest = read.map_err(|error| Failure::reading(manifest, &error))?;
     let lines = entries(&manifest);
     let mut counts = Counts::default();

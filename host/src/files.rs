@@ -14,9 +14,9 @@ pub fn read_front(from: impl Read, most: u64) -> io::Result<Vec<u8>> {
     Ok(bytes)
 }
 
-/// Reads a file that must not be longer than a limit.
-pub fn read_whole(path: &Path, most: u64) -> io::Result<Vec<u8>> {
-    let bytes = read_front(File::open(path)?, most + 1)?;
+/// Reads all, where that is not longer than a limit.
+pub fn read_whole(from: impl Read, most: u64) -> io::Result<Vec<u8>> {
+    let bytes = read_front(from, most + 1)?;
     if bytes.len() as u64 > most {
         return Err(io::Error::other(format!("it is longer than {most} bytes")));
     }
@@ -32,8 +32,7 @@ pub fn read_sheet(path: &Path) -> io::Result<Vec<u8>> {
         file.seek(SeekFrom::Start(length - 25))?;
         return read_front(file, 25);
     }
-    drop(file);
-    read_whole(path, LONGEST_SHEET)
+    read_whole(file, LONGEST_SHEET)
 }
 
 /// Whether two names lead to one file that is there.

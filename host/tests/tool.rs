@@ -131,6 +131,7 @@ fn build_check_show() {
     folder.run("check l.raw l.sheet").well("accepted\n");
     folder.run("check l.raw l.sheet --start=0,0,0").well("accepted\n");
     folder.run("show l.sheet").well(&format!("3 1 2 2 2\n{LINES}"));
+    folder.shell("cat l.sheet | \"$1\" check l.raw /dev/stdin").well("accepted\n");
     assert_eq!(folder.names(), ["l.raw", "l.sheet"]);
 
     folder.put("p.raw", &pair());
