@@ -1,0 +1,64 @@
+//! The hand-written C mesher, `second.c`, over slices.
+
+use std::sync::Once;
+
+/// The compiler and the level that `second.c` was compiled by.
+pub const COMPILER: &str = env!("BASELINE_COMPILER");
+
+#[repr(C)]
+#[derive(Clone, Copy)]
+struct Answer {
+    number: i32,
+    vertices: u32,
+    triangles: u32,
+    cubes: u32,
+}
+
+extern "C" {
+    fn second_init();
+    #[rustfmt::skip]
+    fn second_build(
+        size: *const u16,
+        samples: *const i16,
+        sample_count: usize,
+        start: *const u16,
+        words: *mut u16,
+        word_count: usize,
+        waiting: *mut u32,
+        waiting_count: usize,
+        slots: *mut u32,
+        slot_count: usize,
+        vertices: *mut i32,
+        vertex_count: usize,
+        triangles: *mut u32,
+        triangle_count: usize,
+    ) -> Answer;
+}
+
+/// What is lent: outputs and work room.
+pub struct Lent<'a> {
+    pub vertices: &'a mut [i32],
+    pub triangles: &'a mut [u32],
+    pub words: &'a mut [u16],
+    pub waiting: &'a mut [u32],
+    pub slots: &'a mut [u32],
+}
+
+/// Builds; answers the refusal number, and the counts of vertices, triangles and cubes.
+pub fn build(sizes: [u16; 3], start: Option<[u16; 3]>, samples: &[i16], lent: Lent) -> [usize; 4] {
+    static TABLES: Once = Once::new();
+    // SAFETY: it fills its own tables, and `Once` lets it run alone.
+    TABLES.call_once(|| unsafe { second_init() });
+    let named = start.as_ref().map_or(std::ptr::null(), |cube| cube.as_ptr());
+    // SAFETY: each pointer comes with the length of its slice, and the slices are lent for the call alone.
+    #[rustfmt::skip]
+    let answer = unsafe {
+        second_build(
+            sizes.as_ptr(), samples.as_ptr(), samples.len(), named,
+            lent.words.as_mut_ptr(), lent.words.len(), lent.waiting.as_mut_ptr(), lent.waiting.len(),
+            lent.slots.as_mut_ptr(), lent.slots.len(), lent.vertices.as_mut_ptr(), lent.vertices.len(),
+            lent.triangles.as_mut_ptr(), lent.triangles.len(),
+        )
+    };
+    [answer.number as usize, answer.vertices as usize, answer.triangles as usize, answer.cubes as usize]
+}

@@ -1,0 +1,20 @@
+//! A second mesher, writer, reader and checker, written from document 01 alone.
+//!
+//! It works on coordinates, sets and maps. The proved code works on lent slices, edge slots and cube words;
+//! the two share no table and no trick, so that one can be held against the other. The tool does not use it.
+//!
+//! The four calls take the same slices as the proved library's and leave them as document 01 promises.
+
+mod build;
+mod check;
+mod file;
+mod lattice;
+mod list;
+mod sheet;
+
+pub use build::{build, Built, Volume, Work};
+pub use check::{check, Verdict};
+pub use file::{parse, read, serialize, write, Content, Got, Wrote};
+pub use lattice::{Lattice, Point};
+pub use list::{listing, volume};
+pub use sheet::{crossing, Edge, Sheet};

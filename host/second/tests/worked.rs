@@ -1,0 +1,157 @@
+//! Document 01's sheets worked by hand, on the second mesher.
+
+use second::{build, check, crossing, listing, parse, read, serialize, write, Built, Content, Verdict, Volume, Work};
+
+const ROOM: usize = 64 * 64 * 64;
+
+/// Room for any lattice.
+struct Room {
+    words: Vec<u16>,
+    waiting: Vec<u32>,
+    slots: Vec<u32>,
+}
+
+impl Room {
+    fn new() -> Room {
+        Room { words: vec![7; ROOM], waiting: vec![8; ROOM], slots: vec![9; 7 * ROOM] }
+    }
+
+    fn lend(&mut self) -> Work<'_> {
+        Work { words: &mut self.words, waiting: &mut self.waiting, slots: &mut self.slots }
+    }
+}
+
+/// Counts with room for so many vertices and triangles.
+fn counts(sizes: [usize; 3], samples: &[i16], start: Option<[usize; 3]>, room: [usize; 2]) -> [usize; 4] {
+    let (mut vertices, mut triangles) = (vec![0; 4 * room[0]], vec![0; 3 * room[1]]);
+    let volume = Volume { sizes, start, samples };
+    let Built { number, vertices, triangles, cubes } =
+        build(volume, &mut vertices, &mut triangles, &mut Room::new().lend());
+    [number, vertices, triangles, cubes]
+}
+
+fn verdict(sizes: [usize; 3], samples: &[i16], bytes: &[u8]) -> [usize; 2] {
+    let Verdict { number, place } = check(Volume { sizes, start: None, samples }, bytes, &mut Room::new().lend());
+    [number, place]
+}
+
+/// A volume of solid with air at some samples.
+fn with_air(sizes: [usize; 3], air: &[[usize; 3]]) -> Vec<i16> {
+    let mut samples = vec![-1; sizes.iter().product()];
+    for [x, y, z] in air {
+        samples[x + sizes[0] * (y + sizes[1] * z)] = 1;
+    }
+    samples
+}
+
+const LISTED: [i16; 8] = [3, -1, -1, -1, -1, -1, -1, -1];
+
+fn listed_content() -> Content {
+    Content {
+        sizes: [2, 2, 2],
+        records: vec![[0, 49152, 0, 0], [1, 0, 49152, 0], [2, 0, 0, 49152]],
+        triangles: vec![[1, 2, 0]],
+    }
+}
+
+#[test]
+fn the_listing() {
+    let mut file: Vec<u8> = [2u16, 2, 2].iter().flat_map(|axis| axis.to_le_bytes()).collect();
+    file.extend(LISTED.iter().flat_map(|sample| sample.to_le_bytes()));
+    assert_eq!(listing(&file, None), "3 1 1\nv 0 49152 0 0\nv 1 0 49152 0\nv 2 0 0 49152\nt 1 2 0\n");
+    assert_eq!(listing(&file[..5], None), "refused 1\n");
+    assert_eq!(listing(&file[..21], None), "refused 2\n");
+    file.push(0);
+    assert_eq!(listing(&file, None), "refused 2\n");
+}
+
+#[test]
+fn its_file() {
+    let content = listed_content();
+    let bytes = serialize(&content);
+    assert_eq!(bytes.len(), 84);
+    let trailer: Vec<u8> = [60u32, 3, 12, 1]
+        .iter()
+        .flat_map(|word| word.to_le_bytes())
+        .chain([2u16, 2, 2, 21331].iter().flat_map(|word| word.to_le_bytes()))
+        .collect();
+    assert_eq!(bytes[60..], trailer);
+    assert_eq!(parse(&bytes), Ok(content.clone()));
+
+    let (records, triangles) = (content.records.concat(), content.triangles.concat());
+    let mut out = [0xee; 90];
+    assert_eq!(write([2, 2, 2], 3, 1, &records, &triangles, &mut out).bytes, 84);
+    assert_eq!(out[..84], bytes);
+    assert_eq!(out[84..], [0xee; 6]);
+    let refusals = [
+        write([2, 2, 1], 3, 1, &records, &triangles, &mut out),
+        write([2, 2, 2], 4, 1, &records, &triangles, &mut out),
+        write([2, 2, 2], 2, 1, &records, &triangles, &mut out),
+        write([2, 2, 2], 3, 1, &records, &triangles, &mut out[..83]),
+    ];
+    assert_eq!(refusals.map(|wrote| (wrote.number, wrote.bytes)), [(1, 0), (9, 0), (15, 0), (8, 0)]);
+
+    let (mut vertices, mut back) = ([5; 13], [6; 4]);
+    let got = read(&bytes, &mut vertices, &mut back);
+    assert_eq!((got.number, got.vertices, got.triangles, got.sizes), (0, 3, 1, [2, 2, 2]));
+    assert_eq!((&vertices[..12], vertices[12], &back[..3], back[3]), (&records[..], 5, &triangles[..], 6));
+    assert_eq!(read(&bytes, &mut vertices[..11], &mut back).number, 6);
+    assert_eq!(read(&bytes, &mut vertices, &mut back[..2]).number, 7);
+    assert_eq!(read(&bytes[..23], &mut vertices, &mut back).number, 11);
+}
+
+#[test]
+fn its_checks() {
+    let of = |content: &Content| verdict([2, 2, 2], &LISTED, &serialize(content));
+    let mut content = listed_content();
+    assert_eq!(of(&content), [0, 0]);
+    content.triangles = vec![[2, 0, 1]];
+    assert_eq!(of(&content), [0, 0]);
+    content.triangles = vec![[1, 0, 2]];
+    assert_eq!(of(&content), [18, 0]);
+    content.triangles = vec![[1, 2, 0], [1, 2, 0]];
+    assert_eq!(of(&content), [18, 1]);
+    content.triangles = vec![];
+    assert_eq!(of(&content), [19, 0]);
+    content = listed_content();
+    content.records[1][2] += 1;
+    assert_eq!(of(&content), [17, 1]);
+    content = listed_content();
+    content.sizes = [2, 2, 3];
+    assert_eq!(of(&content), [16, 0]);
+    assert_eq!(verdict([2, 2, 2], &LISTED, &[0; 23]), [11, 0]);
+}
+
+#[test]
+fn counts_by_hand() {
+    assert_eq!(counts([2, 2, 2], &with_air([2, 2, 2], &[[1, 1, 0]]), None, [9, 9]), [0, 6, 5, 1]);
+
+    let single = with_air([3, 3, 3], &[[1, 1, 1]]);
+    for n in 0..8 {
+        let start = Some([n % 2, n / 2 % 2, n / 4]);
+        assert_eq!(counts([3, 3, 3], &single, start, [14, 24]), [0, 14, 24, 8]);
+    }
+    assert_eq!(counts([3, 3, 3], &single, None, [13, 24]), [6, 14, 24, 8]);
+    assert_eq!(counts([3, 3, 3], &single, None, [14, 23]), [7, 14, 24, 8]);
+
+    let pair = with_air([5, 2, 2], &[[0, 0, 0], [4, 0, 0]]);
+    assert_eq!(counts([5, 2, 2], &pair, Some([0, 0, 0]), [9, 9]), [0, 3, 1, 1]);
+    assert_eq!(counts([5, 2, 2], &pair, Some([3, 0, 0]), [9, 9]), [0, 5, 3, 1]);
+    assert_eq!(counts([5, 2, 2], &pair, Some([1, 0, 0]), [9, 9]), [5, 0, 0, 0]);
+    assert_eq!(counts([5, 2, 2], &pair, Some([4, 0, 0]), [9, 9]), [4, 0, 0, 0]);
+    assert_eq!(counts([5, 2, 2], &pair, Some([usize::MAX, 0, 0]), [9, 9]), [4, 0, 0, 0]);
+
+    assert_eq!(counts([2, 2, 2], &[0; 8], None, [9, 9]), [5, 0, 0, 0]);
+    assert_eq!(counts([1, 2, 2], &[0; 4], None, [9, 9]), [1, 0, 0, 0]);
+    assert_eq!(counts([2, 65, 2], &[0; 260], None, [9, 9]), [1, 0, 0, 0]);
+    assert_eq!(counts([2, 64, 2], &[0; 256], None, [9, 9]), [5, 0, 0, 0]);
+    assert_eq!(counts([2, 2, 2], &[0; 9], None, [9, 9]), [2, 0, 0, 0]);
+}
+
+#[test]
+fn values_of_t() {
+    let worked = [(0, 1, 0), (-1, 32767, 2), (-2, 1, 43690), (-32768, 32767, 32768), (-32768, 1, 65534)];
+    for (p, q, t) in worked {
+        assert_eq!(crossing(p, q), t);
+    }
+}

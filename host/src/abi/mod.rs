@@ -1,0 +1,100 @@
+//! The boundary to the proved library: its four functions, over slices.
+//!
+//! The numbers and structs are those of the crate `cabi`; the library itself tests every argument, so these
+//! wrappers add nothing but the slices' lengths. A library compiled for this processor is called directly; one
+//! for another processor is called in a process of its own under an emulator (see `build.rs`).
+
+#[cfg(not(emulated))]
+mod direct;
+#[cfg(emulated)]
+mod emulated;
+
+#[cfg(not(emulated))]
+use direct as library;
+#[cfg(emulated)]
+use emulated as library;
+
+/// Whether the library runs under an emulator, where times say nothing.
+pub const EMULATED: bool = cfg!(emulated);
+
+#[repr(C)]
+#[derive(Clone, Copy, Debug, Default, PartialEq, Eq)]
+pub struct Sizes {
+    pub nx: usize,
+    pub ny: usize,
+    pub nz: usize,
+}
+
+#[repr(C)]
+#[derive(Clone, Copy, Debug, Default, PartialEq, Eq)]
+pub struct Place {
+    pub x: usize,
+    pub y: usize,
+    pub z: usize,
+}
+
+#[repr(C)]
+#[derive(Clone, Copy, Debug, Default, PartialEq, Eq)]
+pub struct Built {
+    pub number: usize,
+    pub vertices: usize,
+    pub triangles: usize,
+    pub cubes: usize,
+}
+
+#[repr(C)]
+#[derive(Clone, Copy, Debug, Default, PartialEq, Eq)]
+pub struct Wrote {
+    pub number: usize,
+    pub place: usize,
+    pub bytes: usize,
+}
+
+#[repr(C)]
+#[derive(Clone, Copy, Debug, Default, PartialEq, Eq)]
+pub struct Got {
+    pub number: usize,
+    pub place: usize,
+    pub vertices: usize,
+    pub triangles: usize,
+    pub sizes: Sizes,
+}
+
+#[repr(C)]
+#[derive(Clone, Copy, Debug, Default, PartialEq, Eq)]
+pub struct Verdict {
+    pub number: usize,
+    pub place: usize,
+}
+
+/// A lattice as a caller gives it: sizes, samples and perhaps a start cube. Nothing is assumed of them.
+#[derive(Clone, Copy, Debug)]
+pub struct Lattice<'a> {
+    pub sizes: Sizes,
+    pub start: Option<Place>,
+    pub samples: &'a [i16],
+}
+
+/// The lent work room: cube words, waiting list, edge slots.
+#[derive(Debug)]
+pub struct Work<'a> {
+    pub words: &'a mut [u16],
+    pub waiting: &'a mut [u32],
+    pub slots: &'a mut [u32],
+}
+
+pub fn build(lattice: Lattice, vertices: &mut [i32], triangles: &mut [u32], work: Work) -> Built {
+    library::build(lattice, vertices, triangles, work)
+}
+
+pub fn write(sizes: Sizes, nv: usize, nt: usize, vertices: &[i32], triangles: &[u32], bytes: &mut [u8]) -> Wrote {
+    library::write(sizes, nv, nt, vertices, triangles, bytes)
+}
+
+pub fn read(bytes: &[u8], vertices: &mut [i32], triangles: &mut [u32]) -> Got {
+    library::read(bytes, vertices, triangles)
+}
+
+pub fn check(lattice: Lattice, bytes: &[u8], work: Work) -> Verdict {
+    library::check(lattice, bytes, work)
+}

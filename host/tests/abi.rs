@@ -1,0 +1,186 @@
+//! Every function of the library with every argument distinct, so that two in each other's place are noticed.
+
+use host::abi::{self, Built, Got, Lattice, Place, Sizes, Verdict, Work, Wrote};
+
+const SIZES: [usize; 3] = [2, 3, 4];
+const START: [usize; 3] = [0, 1, 2];
+const CUBES: usize = 6;
+const SLOTS: usize = 7 * 24;
+
+/// Air at two samples apart: two pieces, of which the start is in the second.
+fn samples() -> Vec<i16> {
+    let mut samples: Vec<i16> = (0..24).map(|n| -10 - 3 * n).collect();
+    samples[0] = 100;
+    samples[14] = 77;
+    samples
+}
+
+fn lattice(samples: &[i16]) -> Lattice<'_> {
+    let ([nx, ny, nz], [x, y, z]) = (SIZES, START);
+    Lattice { sizes: Sizes { nx, ny, nz }, start: Some(Place { x, y, z }), samples }
+}
+
+/// All that a build is lent, each slice of another length and with other contents.
+#[derive(Clone, Debug, PartialEq, Eq)]
+struct Lent {
+    vertices: Vec<i32>,
+    triangles: Vec<u32>,
+    words: Vec<u16>,
+    waiting: Vec<u32>,
+    slots: Vec<u32>,
+}
+
+impl Lent {
+    fn new() -> Lent {
+        Lent {
+            vertices: (0..101).map(|n| 1000 + n).collect(),
+            triangles: (0..62).map(|n| 2000 + n).collect(),
+            words: (0..CUBES as u16 + 1).map(|n| 3000 + n).collect(),
+            waiting: (0..CUBES as u32 + 3).map(|n| 4000 + n).collect(),
+            slots: (0..SLOTS as u32 + 5).map(|n| 5000 + n).collect(),
+        }
+    }
+
+    fn build(&mut self, lattice: Lattice) -> Built {
+        let work = Work { words: &mut self.words, waiting: &mut self.waiting, slots: &mut self.slots };
+        abi::build(lattice, &mut self.vertices, &mut self.triangles, work)
+    }
+
+    fn check(&mut self, lattice: Lattice, bytes: &[u8]) -> Verdict {
+        let work = Work { words: &mut self.words, waiting: &mut self.waiting, slots: &mut self.slots };
+        abi::check(lattice, bytes, work)
+    }
+
+    fn second_build(&mut self, volume: second::Volume) -> [usize; 4] {
+        let mut work = second::Work { words: &mut self.words, waiting: &mut self.waiting, slots: &mut self.slots };
+        let built = second::build(volume, &mut self.vertices, &mut self.triangles, &mut work);
+        [built.number, built.vertices, built.triangles, built.cubes]
+    }
+}
+
+#[test]
+fn build() {
+    let samples = samples();
+    for start in [Some(START), None] {
+        let (mut ours, mut theirs) = (Lent::new(), Lent::new());
+        let place = start.map(|[x, y, z]| Place { x, y, z });
+        let built = ours.build(Lattice { start: place, ..lattice(&samples) });
+        let [number, vertices, triangles, cubes] =
+            theirs.second_build(second::Volume { sizes: SIZES, start, samples: &samples });
+        assert_eq!(built, Built { number, vertices, triangles, cubes });
+        assert_eq!(number, 0);
+        assert!(start.is_none() || vertices != triangles && triangles != cubes && vertices != cubes);
+        assert_eq!(ours, theirs);
+    }
+}
+
+/// A change to what is lent.
+type Shorter = fn(&mut Lent);
+
+#[test]
+fn build_with_one_thing_short() {
+    let samples = samples();
+    let short: [(usize, Shorter); 5] = [
+        (3, |lent| lent.words.truncate(CUBES - 1)),
+        (3, |lent| lent.waiting.truncate(CUBES - 1)),
+        (3, |lent| lent.slots.truncate(SLOTS - 1)),
+        (6, |lent| lent.vertices.truncate(3)),
+        (7, |lent| lent.triangles.truncate(2)),
+    ];
+    for (number, shorten) in short {
+        let mut lent = Lent::new();
+        shorten(&mut lent);
+        assert_eq!(lent.build(lattice(&samples)).number, number);
+    }
+    assert_eq!(Lent::new().build(lattice(&samples[1..])).number, 2);
+    for (axis, number) in [(0, 4), (1, 4), (2, 4)] {
+        let mut start = START;
+        start[axis] = SIZES[axis] - 1;
+        let [x, y, z] = start;
+        assert_eq!(Lent::new().build(Lattice { start: Some(Place { x, y, z }), ..lattice(&samples) }).number, number);
+    }
+}
+
+fn content() -> second::Content {
+    second::Content {
+        sizes: SIZES,
+        records: (0..5).map(|n| [-7 * n, 8 + n, 1 << (20 + n), i32::MIN + n]).collect(),
+        triangles: vec![[0, 4, 2], [3, 1, 4]],
+    }
+}
+
+#[test]
+fn write() {
+    let content = content();
+    let mut vertices = content.records.concat();
+    vertices.extend([91, 92, 93]);
+    let mut triangles = content.triangles.concat();
+    triangles.extend([94, 95]);
+    let file = second::serialize(&content);
+    let mut bytes = vec![0xaa; file.len() + 9];
+    let [nx, ny, nz] = SIZES;
+    let mut write =
+        |nv, nt, length| abi::write(Sizes { nx, ny, nz }, nv, nt, &vertices, &triangles, &mut bytes[..length]);
+    assert_eq!(write(6, 2, 128), Wrote { number: 9, place: 0, bytes: 0 });
+    assert_eq!(write(5, 3, 128), Wrote { number: 9, place: 0, bytes: 0 });
+    assert_eq!(write(4, 2, 128), Wrote { number: 15, place: 0, bytes: 0 });
+    assert_eq!(write(5, 2, 127), Wrote { number: 8, place: 0, bytes: 0 });
+    assert_eq!(write(5, 2, 137), Wrote { number: 0, place: 0, bytes: 128 });
+    assert_eq!(bytes[..128], file);
+    assert_eq!(bytes[128..], [0xaa; 9]);
+}
+
+#[test]
+fn read() {
+    let content = content();
+    let file = second::serialize(&content);
+    let (mut vertices, mut triangles) = (vec![50; 23], vec![60; 8]);
+    let got = abi::read(&file, &mut vertices, &mut triangles);
+    let [nx, ny, nz] = SIZES;
+    assert_eq!(got, Got { number: 0, place: 0, vertices: 5, triangles: 2, sizes: Sizes { nx, ny, nz } });
+    assert_eq!(vertices, [content.records.concat(), vec![50; 3]].concat());
+    assert_eq!(triangles, [content.triangles.concat(), vec![60; 2]].concat());
+    assert_eq!(abi::read(&file, &mut vertices[..19], &mut triangles).number, 6);
+    assert_eq!(abi::read(&file, &mut vertices, &mut triangles[..5]).number, 7);
+    let mut stray = content;
+    stray.triangles[1][2] = 5;
+    let got = abi::read(&second::serialize(&stray), &mut vertices, &mut triangles);
+    assert_eq!(got, Got { number: 15, place: 1, ..Got::default() });
+}
+
+#[test]
+fn check() {
+    let samples = samples();
+    let mut lent = Lent::new();
+    let built = lent.build(lattice(&samples));
+    let sheet = second::Content {
+        sizes: SIZES,
+        records: lent.vertices.chunks_exact(4).take(built.vertices).map(|r| [r[0], r[1], r[2], r[3]]).collect(),
+        triangles: lent.triangles.chunks_exact(3).take(built.triangles).map(|t| [t[0], t[1], t[2]]).collect(),
+    };
+    let mut verdict = |sheet: &second::Content| lent.check(lattice(&samples), &second::serialize(sheet));
+    assert_eq!(verdict(&sheet), Verdict { number: 0, place: 0 });
+    let mut moved = sheet.clone();
+    moved.records[3][1] += 1;
+    assert_eq!(verdict(&moved), Verdict { number: 17, place: 3 });
+    let mut mirrored = sheet.clone();
+    mirrored.triangles[1].swap(0, 1);
+    assert_eq!(verdict(&mirrored), Verdict { number: 18, place: 1 });
+    let mut turned = sheet.clone();
+    turned.sizes.reverse();
+    assert_eq!(verdict(&turned), Verdict { number: 16, place: 0 });
+
+    let file = second::serialize(&sheet);
+    let other = Lattice { start: None, ..lattice(&samples) };
+    assert_ne!(Lent::new().check(other, &file).number, 0);
+    let short: [Shorter; 3] = [
+        |lent| lent.words.truncate(CUBES - 1),
+        |lent| lent.waiting.truncate(CUBES - 1),
+        |lent| lent.slots.truncate(SLOTS - 1),
+    ];
+    for shorten in short {
+        let mut lent = Lent::new();
+        shorten(&mut lent);
+        assert_eq!(lent.check(lattice(&samples), &file).number, 3);
+    }
+}

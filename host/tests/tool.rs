@@ -1,0 +1,396 @@
+//! The tool as a process: what it prints, its exit status, and the files it leaves.
+
+use std::fs::{self, File};
+use std::io::{Read, Seek, SeekFrom, Write};
+use std::path::{Path, PathBuf};
+use std::process::{Command, Output, Stdio};
+
+const TOOL: &str = env!("CARGO_BIN_EXE_malxuqeed");
+
+/// A folder of a test, gone when the test ends.
+struct Folder(PathBuf);
+
+impl Folder {
+    fn new(name: &str) -> Folder {
+        let path = std::env::temp_dir().join(format!("malxuqeed-tool-{}-{name}", std::process::id()));
+        fs::create_dir(&path).expect("a new folder");
+        Folder(path)
+    }
+
+    fn put(&self, name: &str, bytes: &[u8]) {
+        fs::write(self.0.join(name), bytes).expect("a file");
+    }
+
+    fn get(&self, name: &str) -> Vec<u8> {
+        fs::read(self.0.join(name)).expect("a file")
+    }
+
+    fn names(&self) -> Vec<String> {
+        let entries = fs::read_dir(&self.0).expect("the folder");
+        let mut names: Vec<String> =
+            entries.flatten().map(|entry| entry.file_name().to_string_lossy().into()).collect();
+        names.sort();
+        names
+    }
+
+    /// Runs the tool here, on words parted by spaces and with an empty standard input.
+    fn run(&self, line: &str) -> Run {
+        self.run_words(&line.split(' ').filter(|word| !word.is_empty()).collect::<Vec<_>>())
+    }
+
+    fn run_words(&self, words: &[&str]) -> Run {
+        Run::of(
+            Command::new(TOOL).args(words).current_dir(&self.0).stdin(Stdio::null()).output().expect("the tool runs"),
+        )
+    }
+
+    /// Runs a shell line here, with the tool as $1.
+    fn shell(&self, line: &str) -> Run {
+        let shell = Command::new("sh").args(["-c", line, "sh", TOOL]).current_dir(&self.0).output();
+        Run::of(shell.expect("a shell"))
+    }
+}
+
+impl Drop for Folder {
+    fn drop(&mut self) {
+        let _ = fs::remove_dir_all(&self.0);
+    }
+}
+
+#[derive(Debug)]
+struct Run {
+    status: Option<i32>,
+    output: String,
+    errors: String,
+}
+
+impl Run {
+    fn of(output: Output) -> Run {
+        Run {
+            status: output.status.code(),
+            output: String::from_utf8_lossy(&output.stdout).into(),
+            errors: String::from_utf8_lossy(&output.stderr).into(),
+        }
+    }
+
+    /// Succeeded, printed exactly this and said nothing.
+    fn well(&self, output: &str) {
+        assert_eq!((self.status, self.output.as_str(), self.errors.as_str()), (Some(0), output, ""));
+    }
+
+    /// Refused with exactly this line, and one sentence on standard error.
+    fn refused(&self, line: &str) {
+        assert_eq!((self.status, self.output.trim_end()), (Some(1), line), "{self:?}");
+        assert_eq!(self.errors.lines().count(), 1, "{self:?}");
+    }
+
+    /// Failed with status 2, printed nothing, and said why.
+    fn failed(&self) {
+        assert_eq!((self.status, self.output.as_str()), (Some(2), ""), "{self:?}");
+        assert!(self.errors.starts_with("malxuqeed: "), "{self:?}");
+    }
+}
+
+fn volume(sizes: [u16; 3], samples: &[i16]) -> Vec<u8> {
+    let head = sizes.iter().flat_map(|axis| axis.to_le_bytes());
+    head.chain(samples.iter().flat_map(|sample| sample.to_le_bytes())).collect()
+}
+
+/// Document 01's listing.
+fn listed() -> Vec<u8> {
+    volume([2, 2, 2], &[3, -1, -1, -1, -1, -1, -1, -1])
+}
+
+/// Document 01's 5x2x2 with two air samples.
+fn pair() -> Vec<u8> {
+    let mut samples = [-1; 20];
+    (samples[0], samples[4]) = (1, 1);
+    volume([5, 2, 2], &samples)
+}
+
+const LINES: &str = "v 0 49152 0 0\nv 1 0 49152 0\nv 2 0 0 49152\nt 1 2 0\n";
+
+#[test]
+fn listing() {
+    let folder = Folder::new("listing");
+    folder.put("l.raw", &listed());
+    folder.run("list l.raw").well(&format!("3 1 1\n{LINES}"));
+    folder.shell("\"$1\" list < l.raw").well(&format!("3 1 1\n{LINES}"));
+    folder.shell("cat l.raw | \"$1\" list --start 0,0,0").well(&format!("3 1 1\n{LINES}"));
+    folder.run("list").refused("refused 1");
+    folder.run("list l.raw --start 1,0,0").refused("refused 4");
+}
+
+#[test]
+fn build_check_show() {
+    let folder = Folder::new("build");
+    folder.put("l.raw", &listed());
+    folder.run("build l.raw l.sheet").well("3 1 1\n");
+    let file = folder.get("l.sheet");
+    assert_eq!(file.len(), 84);
+    folder.run("check l.raw l.sheet").well("accepted\n");
+    folder.run("check l.raw l.sheet --start=0,0,0").well("accepted\n");
+    folder.run("show l.sheet").well(&format!("3 1 2 2 2\n{LINES}"));
+    folder.shell("cat l.sheet | \"$1\" check l.raw /dev/stdin").well("accepted\n");
+    assert_eq!(folder.names(), ["l.raw", "l.sheet"]);
+
+    folder.put("p.raw", &pair());
+    folder.run("build p.raw a.sheet --start 0,0,0").well("3 1 1\n");
+    folder.run("build p.raw b.sheet --start 3,0,0").well("5 3 1\n");
+    folder.run("build --start 1,0,0 p.raw b.sheet").refused("refused 5");
+    folder.run("build p.raw b.sheet --start 4,0,0").refused("refused 4");
+    folder.run("build p.raw b.sheet --start 99999999999999999999,0,0").refused("refused 4");
+    folder.run("check p.raw b.sheet --start 3,0,0").well("accepted\n");
+    folder.run("check p.raw b.sheet").refused("refused 17 0");
+    folder.run("check l.raw b.sheet").refused("refused 16 0");
+}
+
+#[test]
+fn refusals() {
+    let folder = Folder::new("refusals");
+    let good = listed();
+    folder.put("short.raw", &good[..5]);
+    folder.put("few.raw", &good[..20]);
+    folder.put("odd.raw", &good[..21]);
+    folder.put("more.raw", &[&good[..], &[0]].concat());
+    folder.put("axis.raw", &volume([2, 65, 2], &[0; 260]));
+    folder.put("flat.raw", &volume([2, 2, 2], &[0; 8]));
+    folder.put("long.raw", &volume([64, 64, 64], &vec![-1; 64 * 64 * 64 + 7]));
+    folder.put("full.raw", &volume([64, 64, 64], &vec![-1; 64 * 64 * 64]));
+    folder.put("old.sheet", b"old");
+    let numbers =
+        [("short", 1), ("few", 2), ("odd", 2), ("more", 2), ("axis", 1), ("flat", 5), ("long", 2), ("full", 5)];
+    for (name, number) in numbers {
+        folder.run(&format!("list {name}.raw")).refused(&format!("refused {number}"));
+        folder.run(&format!("build {name}.raw old.sheet")).refused(&format!("refused {number}"));
+        folder.run(&format!("check {name}.raw old.sheet")).refused(&format!("refused {number} 0"));
+    }
+    assert_eq!(folder.get("old.sheet"), b"old");
+    folder.run("show old.sheet").refused("refused 11 0");
+    folder.put("zero.sheet", &[0; 24]);
+    folder.run("show zero.sheet").refused("refused 12 0");
+    folder.put("l.raw", &good);
+    folder.run("build l.raw l.sheet").well("3 1 1\n");
+    let file = folder.get("l.sheet");
+    let mut stray = file.clone();
+    stray[48] = 3;
+    folder.put("stray.sheet", &stray);
+    folder.run("show stray.sheet").refused("refused 15 0");
+    let mut moved = file.clone();
+    moved[16 + 8] ^= 1;
+    folder.put("moved.sheet", &moved);
+    let run = folder.run("check l.raw moved.sheet");
+    run.refused("refused 17 1");
+    assert!(run.errors.contains("vertex record 1"), "{run:?}");
+}
+
+#[test]
+fn usage_and_help() {
+    let folder = Folder::new("usage");
+    for line in [
+        "",
+        "bild",
+        "build",
+        "build a",
+        "check a b c",
+        "list a b",
+        "show",
+        "audit",
+        "list --what",
+        "show a --start 0,0,0",
+    ] {
+        folder.run(line).failed();
+    }
+    for words in [&["list", "--start", ""][..], &["list", "--start", "1,2"], &["list", "--start=1,-2,3"], &["", ""]] {
+        folder.run_words(words).failed();
+    }
+    for command in ["", "build ", "check ", "list ", "show ", "audit "] {
+        let run = folder.run(&format!("{command}--help"));
+        assert_eq!((run.status, run.errors.as_str()), (Some(0), ""));
+        assert!(run.output.starts_with(&format!("malxuqeed{}{command}", if command.is_empty() { ":" } else { " " })));
+        assert!(run.output.lines().all(|line| line.len() <= 120), "{run:?}");
+    }
+    assert!(folder.names().is_empty());
+}
+
+#[test]
+fn files_that_cannot_be_read_or_written() {
+    let folder = Folder::new("files");
+    folder.put("l.raw", &listed());
+    fs::create_dir(folder.0.join("folder")).expect("a folder");
+    for line in
+        ["list missing", "list folder", "show missing", "show folder", "check l.raw missing", "check folder l.raw"]
+    {
+        folder.run(line).failed();
+    }
+    for line in ["audit missing", "audit folder", "build missing new", "build l.raw folder", "build l.raw folder/"] {
+        folder.run(line).failed();
+    }
+    for line in
+        ["build l.raw missing/new", "build l.raw l.raw/new", "build l.raw l.raw", "build l.raw ./folder/../l.raw"]
+    {
+        folder.run(line).failed();
+    }
+    folder.run_words(&["build", "l.raw", ""]).failed();
+    folder.run_words(&["build", "l.raw", &"n".repeat(300)]).failed();
+    assert_eq!(folder.get("l.raw"), listed());
+    assert_eq!(folder.names(), ["folder", "l.raw"]);
+    assert_eq!(fs::read_dir(folder.0.join("folder")).map(Iterator::count).ok(), Some(0));
+    folder.shell("\"$1\" list l.raw > /dev/full").failed();
+}
+
+#[test]
+fn a_device_is_never_replaced() {
+    let folder = Folder::new("device");
+    folder.put("l.raw", &listed());
+    // a link to a device, so that even a mistake would only replace the link
+    std::os::unix::fs::symlink("/dev/null", folder.0.join("null")).expect("a link");
+    folder.run("build l.raw null").failed();
+    assert!(fs::symlink_metadata(folder.0.join("null")).is_ok_and(|about| about.is_symlink()));
+}
+
+#[test]
+fn a_link_is_followed_and_names_may_be_long() {
+    let folder = Folder::new("link");
+    folder.put("l.raw", &listed());
+    fs::create_dir(folder.0.join("archive")).expect("a folder");
+    folder.put("archive/real.sheet", b"old");
+    std::os::unix::fs::symlink("archive/real.sheet", folder.0.join("link")).expect("a link");
+    folder.run("build l.raw link").well("3 1 1\n");
+    assert!(fs::symlink_metadata(folder.0.join("link")).is_ok_and(|about| about.is_symlink()));
+    assert_eq!(folder.get("archive/real.sheet").len(), 84);
+    let long = "n".repeat(255);
+    folder.run(&format!("build l.raw {long}")).well("3 1 1\n");
+    folder.run(&format!("check l.raw {long}")).well("accepted\n");
+    folder.run("build l.raw -- --odd").well("3 1 1\n");
+    folder.run("show -- --odd").well(&format!("3 1 2 2 2\n{LINES}"));
+}
+
+/// A volume whose sheet is longer than a block or two.
+fn larger() -> Vec<u8> {
+    let samples: Vec<i16> = (0..1000).map(|n| if n * 7 % 5 == 0 { 9 } else { -9 }).collect();
+    volume([10, 10, 10], &samples)
+}
+
+#[test]
+fn a_full_disk_leaves_the_old_file() {
+    let folder = Folder::new("full");
+    folder.put("v.raw", &larger());
+    folder.put("old.sheet", b"old");
+    // a limit on the length of files, with the signal ignored: the write fails as on a full disk
+    folder.shell("trap '' XFSZ; ulimit -f 1; \"$1\" build v.raw old.sheet").failed();
+    folder.shell("trap '' XFSZ; ulimit -f 1; \"$1\" build v.raw new.sheet").failed();
+    assert_eq!(folder.get("old.sheet"), b"old");
+    assert_eq!(folder.names(), ["old.sheet", "v.raw"]);
+}
+
+#[test]
+fn a_crash_leaves_the_old_file_or_none() {
+    let folder = Folder::new("crash");
+    folder.put("v.raw", &larger());
+    folder.put("old.sheet", b"old");
+    // the same limit with its signal: the tool dies in the middle of its write
+    for sheet in ["old.sheet", "new.sheet"] {
+        let run = folder.shell(&format!("ulimit -c 0; ulimit -f 1; \"$1\" build v.raw {sheet}"));
+        assert_ne!(run.status, Some(0));
+    }
+    assert_eq!(folder.get("old.sheet"), b"old");
+    assert!(!folder.0.join("new.sheet").exists());
+}
+
+#[test]
+fn files_of_any_length() {
+    let folder = Folder::new("length");
+    folder.put("l.raw", &listed());
+    let sparse = |name: &str, length: u64, end: &[u8]| {
+        let mut file = File::create(folder.0.join(name)).expect("a file");
+        file.set_len(length - end.len() as u64).expect("a sparse file");
+        file.seek(SeekFrom::End(0)).expect("its end");
+        file.write_all(end).expect("its end");
+    };
+    let trailer: Vec<u8> = [2u16, 2, 2, 21_331].iter().flat_map(|word| word.to_le_bytes()).collect();
+    sparse("zeros.sheet", 20_000_000_000, &[0]);
+    sparse("marked.sheet", 20_000_000_000, &trailer);
+    sparse("longest.sheet", 80_000_024, &trailer);
+    folder.run("show zeros.sheet").refused("refused 12 0");
+    folder.run("check l.raw marked.sheet").refused("refused 14 0");
+    folder.run("show longest.sheet").refused("refused 14 0");
+    folder.run("list zeros.sheet").refused("refused 1");
+    folder.run("audit zeros.sheet").failed();
+    folder.run("list /dev/zero").refused("refused 1");
+    folder.run("show /dev/zero").failed();
+}
+
+#[test]
+fn audit() {
+    let folder = Folder::new("audit");
+    folder.put("l.raw", &listed());
+    folder.put("a b.raw", &pair());
+    folder.run("build l.raw l.sheet").well("3 1 1\n");
+    folder.run_words(&["build", "a b.raw", "a b.sheet", "--start", "3,0,0"]).well("5 3 1\n");
+    let mut moved = folder.get("l.sheet");
+    moved[4] ^= 1;
+    folder.put("moved.sheet", &moved);
+
+    folder.put("good", b"# all good\nl.raw l.sheet\n\na b.raw\ta b.sheet\t3,0,0\r\n");
+    folder.run("audit good").well(
+        "accepted l.raw l.sheet\naccepted a b.raw\ta b.sheet\t3,0,0\nsheets 2, accepted 2, refused 0, not read 0\n",
+    );
+
+    folder.put("mixed", b"l.raw moved.sheet\nl.raw l.sheet\nl.raw moved.sheet 0,0,0\nl.raw l.sheet 5,5,5");
+    let run = folder.run("audit mixed");
+    assert_eq!(run.status, Some(1));
+    let lines = [
+        "refused 17 0 l.raw moved.sheet",
+        "accepted l.raw l.sheet",
+        "refused 17 0 l.raw moved.sheet 0,0,0",
+        "refused 4 0 l.raw l.sheet 5,5,5",
+        "sheets 4, accepted 1, refused 3, not read 0",
+        "number 4: 1",
+        "number 17: 2",
+    ];
+    assert_eq!(run.output.lines().collect::<Vec<_>>(), lines);
+    assert_eq!(run.errors.lines().count(), 2, "{run:?}");
+
+    folder.put("unread", b"l.raw gone.sheet\nonly-one\nl.raw l.sheet\n. l.sheet\nl.raw moved.sheet\n");
+    let run = folder.run("audit unread");
+    assert_eq!(run.status, Some(2));
+    assert!(run.output.starts_with("not read l.raw gone.sheet: gone.sheet cannot be read"), "{run:?}");
+    assert!(run.output.contains("sheets 5, accepted 1, refused 1, not read 3\n"), "{run:?}");
+
+    folder.put("empty", b"");
+    folder.run("audit empty").well("sheets 0, accepted 0, refused 0, not read 0\n");
+}
+
+#[test]
+fn a_reader_that_leaves_early() {
+    let folder = Folder::new("pipe");
+    let samples: Vec<i16> = (0..32 * 32 * 32).map(|n: i32| (n * 7919 % 65_537 - 32_768) as i16).collect();
+    folder.put("v.raw", &volume([32, 32, 32], &samples));
+    let mut tool = Command::new(TOOL)
+        .args([Path::new("list"), &folder.0.join("v.raw")])
+        .stdout(Stdio::piped())
+        .stderr(Stdio::piped())
+        .spawn()
+        .expect("the tool runs");
+    let mut first = [0; 1];
+    tool.stdout.take().expect("a pipe").read_exact(&mut first).expect("a byte");
+    let run = Run::of(tool.wait_with_output().expect("it ends"));
+    assert_eq!((run.status, run.errors.as_str()), (Some(2), ""));
+}
+
+#[test]
+fn a_full_lattice() {
+    let folder = Folder::new("lattice");
+    let samples: Vec<i16> = (0..64 * 64 * 64).map(|n: i64| (n * n * 7919 % 65_537 - 32_768) as i16).collect();
+    let file = volume([64, 64, 64], &samples);
+    folder.put("v.raw", &file);
+    let expected = second::listing(&file, None);
+    let first = expected.lines().next().unwrap_or_default();
+    folder.run("build v.raw v.sheet").well(&format!("{first}\n"));
+    folder.run("check v.raw v.sheet").well("accepted\n");
+    let list = folder.run("list v.raw");
+    assert!(list.output == expected && list.status == Some(0));
+    let show = folder.run("show v.sheet");
+    assert!(show.output.split_once('\n').map(|(_, rest)| rest) == expected.split_once('\n').map(|(_, rest)| rest));
+}

@@ -1,0 +1,106 @@
+//! One random case of each function, the library's answer and all lent memory held against the second mesher's.
+//! A difference panics with the case.
+
+use crate::cases::{case, content, output_room, sheet_counts, sizes, Guarded, Lent};
+use crate::damage;
+use crate::random::Random;
+use host::abi::{self, Built, Got, Verdict, Wrote};
+use second::Content;
+
+fn built(b: second::Built) -> Built {
+    Built { number: b.number, vertices: b.vertices, triangles: b.triangles, cubes: b.cubes }
+}
+
+/// The number that both gave is returned, for counting.
+pub fn build(random: &mut Random) -> usize {
+    let case = case(random);
+    let counts = sheet_counts(&case);
+    let room = output_room(random, counts.vertices, counts.triangles);
+    let mut ours = Lent::doubtful(random, case.sizes, room);
+    let mut theirs = ours.clone();
+    let answer = ours.library_build(&case);
+    assert_eq!(answer, built(theirs.second_build(&case)), "{case:?} {room:?}");
+    assert!(ours == theirs, "memory differs after {answer:?}: {case:?} {room:?}");
+    answer.number
+}
+
+pub fn check(random: &mut Random) -> usize {
+    let mut about = case(random);
+    let sheet = content(&about).unwrap_or_else(|| damage::free_content(random));
+    let file = damage::file(random, &sheet);
+    if random.once_in(10) {
+        // the sheet of other samples, or of another start
+        let other = case(random);
+        if other.sizes == about.sizes || random.once_in(4) {
+            about = other;
+        } else {
+            about.start = other.start;
+        }
+    }
+    let mut ours = Lent::doubtful(random, about.sizes, [0, 0]);
+    let mut theirs = ours.clone();
+    let answer = ours.library_check(&about, &file);
+    let second::Verdict { number, place } = theirs.second_check(&about, &file);
+    assert_eq!(answer, Verdict { number, place }, "{about:?} {file:?}");
+    assert!(ours == theirs, "memory differs after {answer:?}: {about:?} {file:?}");
+    answer.number
+}
+
+/// Contents of files, some of them sheets.
+fn any_content(random: &mut Random) -> Content {
+    if random.once_in(3) {
+        content(&case(random)).unwrap_or_else(|| damage::free_content(random))
+    } else {
+        damage::free_content(random)
+    }
+}
+
+pub fn read(random: &mut Random) -> usize {
+    let sheet = any_content(random);
+    let file = if random.once_in(2) { second::serialize(&sheet) } else { damage::file(random, &sheet) };
+    let room = output_room(random, sheet.records.len(), sheet.triangles.len());
+    let mut vertices = Guarded::new(random, room[0], |r| r.bits() as i32);
+    let mut triangles = Guarded::new(random, room[1], |r| r.bits() as u32);
+    let mut theirs = (vertices.clone(), triangles.clone());
+    let answer = abi::read(&file, vertices.lend(), triangles.lend());
+    let expected = second::read(&file, theirs.0.lend(), theirs.1.lend());
+    let expected = Got {
+        number: expected.number,
+        place: expected.place,
+        vertices: expected.vertices,
+        triangles: expected.triangles,
+        sizes: sizes(expected.sizes),
+    };
+    assert_eq!(answer, expected, "{file:?} {room:?}");
+    assert!((vertices, triangles) == theirs, "memory differs after {answer:?}: {file:?} {room:?}");
+    answer.number
+}
+
+pub fn write(random: &mut Random) -> usize {
+    let sheet = any_content(random);
+    let (mut vertices, mut triangles) = (sheet.records.concat(), sheet.triangles.concat());
+    vertices.extend((0..random.below(6)).map(|n| n as i32));
+    triangles.extend((0..random.below(5)).map(|n| n as u32));
+    let (v, t) = (sheet.records.len(), sheet.triangles.len());
+    let [nv, nt] = [v, t].map(|count| match random.below(12) {
+        0 => count + 1 + random.below(3),
+        1 => count.saturating_sub(1 + random.below(2)),
+        2 => random.pick(&[2_000_000, 2_000_001, 4_000_000, 4_000_001, usize::MAX, usize::MAX / 4 + 1]),
+        _ => count,
+    });
+    let exact = 16 * v + 12 * t + 24;
+    let length = match random.below(6) {
+        0 => exact - 1,
+        1 => random.below(exact),
+        2 => exact + random.below(50),
+        _ => exact,
+    };
+    let mut bytes = Guarded::new(random, length, |r| r.bits() as u8);
+    let mut theirs = bytes.clone();
+    let answer = abi::write(sizes(sheet.sizes), nv, nt, &vertices, &triangles, bytes.lend());
+    let second::Wrote { number, place, bytes: count } =
+        second::write(sheet.sizes, nv, nt, &vertices, &triangles, theirs.lend());
+    assert_eq!(answer, Wrote { number, place, bytes: count }, "{sheet:?} {nv} {nt} {length}");
+    assert!(bytes == theirs, "memory differs after {answer:?}: {sheet:?} {nv} {nt} {length}");
+    answer.number
+}

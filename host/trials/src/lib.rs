@@ -1,0 +1,10 @@
+//! Trials of the proved library and of the tool: random cases, fuzzing, test volumes.
+
+pub mod cases;
+pub mod damage;
+pub mod fuzz;
+pub mod hold;
+pub mod random;
+pub mod tooled;
+pub mod tray;
+pub mod volumes;
