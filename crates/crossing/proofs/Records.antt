@@ -1,15 +1,12 @@
 -- The record of an edge, by its anchor and kind. Assumes nothing.
 use mathlib.Core.Path.{_≡_, refl, sym, ap, subst, _∙_}
 use mathlib.Core.Bool.{Bool, true, false, cond, xor}
-use mathlib.Core.List.{List}
 use Prim.Native.Nat.{ℕ, _+_, _*_, _/_, _%_, _≤_, _<_}
 use native.Mathlib.Omega.{arith}
 use lib.Dec.{T}
-use lib.IntN.{ℤ}
 use Rattle.paper.specs.declared.Sizes.{Sizes}
 use Rattle.paper.specs.declared.Place.{Place}
 use Rattle.paper.specs.Lattice.{Lattice, sampleNo, sampleAt, airAt, corner}
-use Rattle.paper.specs.Tables.{Ends, ends, kinds}
 use Rattle.paper.specs.Sheet.{split, recordAt, vertexRecord}
 use Rattle.paper.specs.Within.{Sized, SampleIn}
 use Rattle.paper.proofs.Numbers.{sample-place}

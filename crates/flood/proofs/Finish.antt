@@ -2,15 +2,15 @@
 use mathlib.Core.Path.{_≡_, refl, sym, ap, subst, _∙_}
 use mathlib.Core.Bool.{Bool, true, false, cond, not, _&&_}
 use mathlib.Core.List.{List, [], _∷_, _++_, map}
-use mathlib.Core.Logic.{_⊎_, inl, inr, ⊎-elim}
+use mathlib.Core.Logic.{_⊎_, ⊎-elim}
 use Prim.Native.Nat.{ℕ, zero, suc, _+_, _≤_, _<_}
 use native.Mathlib.Omega.{arith}
 use lib.Dec.{T, eqb, eqb·suc-zero}
 use lib.ListN.{length, getD, take, drop, take-append-drop, length-append}
 use lib.Seq.{ext-getD, length-take-le, getD-take}
-use borrow.Author.Tests.{eq-eqb, ne-eqb, eqb-false}
-use Rattle.lists.specs.Lists.{range, isIn, over, keep, consIf}
-use Rattle.lists.specs.Reach.{Reach, here, step}
+use borrow.Author.Tests.{eq-eqb, ne-eqb}
+use Rattle.lists.specs.Lists.{range, isIn, keep, consIf}
+use Rattle.lists.specs.Reach.{step}
 use Rattle.lists.proofs.Member.{T→eq, eq→T, in-keep, in-range}
 use Rattle.lists.proofs.Closure.{marks-are}
 use Rattle.lists.proofs.Runs.{length-along, at-along, keep-snoc}

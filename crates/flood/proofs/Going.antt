@@ -1,26 +1,17 @@
 -- The invariant of a flood, that each act of the flood keeps it, and what it says where nothing waits. Assumes nothing.
-use mathlib.Core.Path.{_≡_, refl, sym, ap, subst, _∙_}
-use mathlib.Core.Bool.{Bool, true, false, cond, not}
-use mathlib.Core.List.{List, [], _∷_, _++_, map}
+use mathlib.Core.Path.{_≡_, sym, ap, _∙_}
+use mathlib.Core.List.{List}
 use mathlib.Core.Logic.{_⊎_, inl, inr, ⊎-elim}
 use Prim.Native.Nat.{ℕ, zero, suc, _+_, _-_, _≤_, _<_, _^_}
-use native.Mathlib.Nat.{eq-or-lt-of-le, zero-add}
+use native.Mathlib.Nat.{eq-or-lt-of-le}
 use native.Mathlib.Decide.{ℕ-discrete}
 use native.Mathlib.Omega.{arith}
-use lib.Dec.{T, eqb}
-use lib.ListN.{length, getD, set, take, drop, replicate, take-append-drop, length-drop, getD-replicate, length-replicate, length-append, List·getD-append}
-use lib.Seq.{drop-at, ext-getD, length-take-le, getD-take, getD-set-same, getD-set-other}
-use borrow.Author.Tests.{eq-eqb, ne-eqb}
-use Rattle.lists.specs.Lists.{range, isIn, over, cleared, keep, consIf}
-use Rattle.lists.specs.Reach.{Reach, here, step}
-use Rattle.lists.proofs.Member.{T→eq, eq→T}
-use Rattle.lists.proofs.Runs.{length-along, at-along, keep-snoc}
-use Rattle.paper.specs.Lattice.{Lattice, cubes, steps, Visited, visited}
-use Rattle.paper.proofs.Visits.{step-lt, visited-exactly}
-use Rattle.sides.specs.Pattern.{stepTo}
-use Rattle.sides.proofs.Laws.{step-by, by-step}
-use Rattle.flood.specs.Flow.{Flow, flow, push, pushes, blank, one-if-zero, Roomy}
-use Rattle.flood.specs.Flooded.{wordOf, wordsOf, Beyond, Flooded}
+use lib.ListN.{length, getD, set, drop, replicate, length-drop, getD-replicate, length-replicate, length-append, List·getD-append}
+use lib.Seq.{drop-at, getD-set-same, getD-set-other}
+use Rattle.lists.specs.Lists.{cleared}
+use Rattle.lists.specs.Reach.{step}
+use Rattle.flood.specs.Flow.{Flow, flow, push, pushes, blank, Roomy}
+use Rattle.flood.specs.Flooded.{Beyond}
 use Rattle.flood.proofs.Laws.{Kept, beyond-refl, beyond-trans, blank-all, push-kept-of, pushes-kept-of, pushed, push-elim, push-room, pushed-kept, pushes-kept, roomy-kept}
 
 -- a store, read at its own place and at another

@@ -1,5 +1,5 @@
 -- The state of a flood: the cube words, the list of waiting cubes, and how many of it wait. Assumes nothing.
-use mathlib.Core.Bool.{Bool, true, false, cond, _&&_}
+use mathlib.Core.Bool.{cond, _&&_}
 use mathlib.Core.List.{List, [], _∷_}
 use Prim.Native.Nat.{ℕ, zero, suc, _+_, _≤_, _<_, _^_}
 use lib.Dec.{eqb, ltb}

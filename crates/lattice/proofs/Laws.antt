@@ -1,7 +1,7 @@
 -- Counts are small, and the place of the next number is the next place. Assumes nothing.
-use mathlib.Core.Path.{_≡_, refl, sym, ap, subst, _∙_}
+use mathlib.Core.Path.{_≡_, sym, ap, _∙_}
 use Prim.Native.Nat.{ℕ, _+_, _-_, _*_, _/_, _%_, _≤_, _<_}
-use native.Mathlib.Nat.{mul-le-mul, mul-add, mul-assoc, div-div-eq-div-mul}
+use native.Mathlib.Nat.{mul-le-mul, mul-add, mul-assoc}
 use native.Mathlib.Omega.{arith}
 use Rattle.paper.specs.declared.Sizes.{Sizes}
 use Rattle.paper.specs.declared.Place.{Place}

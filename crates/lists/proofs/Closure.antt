@@ -1,15 +1,15 @@
 -- What `reached` holds is what steps reach: it is closed under steps, and each of it is reached. Assumes nothing.
 use mathlib.Core.Path.{_≡_, refl, sym, ap, subst, _∙_}
 use mathlib.Core.Logic.{_⊎_, inl, inr}
-use mathlib.Core.Bool.{Bool, true, false, not, cond, _&&_, _||_, or-false}
-use mathlib.Core.List.{List, [], _∷_, _++_, map}
+use mathlib.Core.Bool.{Bool, true, false, _&&_, _||_}
+use mathlib.Core.List.{List, [], _∷_, _++_}
 use Prim.Native.Nat.{ℕ, zero, suc, _+_, _≤_, _<_}
 use native.Mathlib.Omega.{arith}
 use lib.Dec.{T, eqb, eqb→eq, eqb-refl}
 use lib.ListN.{length}
 use Rattle.lists.specs.Lists.{range, consIf, keep, any, each, isIn}
 use Rattle.lists.specs.Reach.{Reach, here, step, grow, rounds, reached}
-use Rattle.lists.proofs.Member.{T→eq, eq→T, or-cases, or-left, or-right, and-both, and-left, and-right, any-append, any-each, any-in, in-any, in-keep, in-range, range-in}
+use Rattle.lists.proofs.Member.{or-cases, or-left, or-right, and-both, and-left, and-right, any-append, any-each, any-in, in-any, in-keep, in-range, range-in}
 
 -- of two tests, the second of which passes where the first does: they keep the same, or the second keeps more
 data Kept (a b : List ℕ) : Type 0 where

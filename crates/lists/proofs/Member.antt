@@ -1,16 +1,14 @@
 -- Membership by a test, `isIn l k`, in each of the lists that the definitions make: equations of tests. Assumes nothing.
 use mathlib.Core.Path.{_≡_, refl, sym, ap, subst, _∙_}
 use mathlib.Core.Logic.{_⊎_, inl, inr}
-use mathlib.Core.Bool.{Bool, true, false, not, cond, _&&_, _||_, or-assoc, or-false, and-false}
-use mathlib.Core.List.{List, [], _∷_, _++_, map}
+use mathlib.Core.Bool.{Bool, true, false, _&&_, _||_, or-assoc, and-false}
+use mathlib.Core.List.{List, [], _∷_, _++_}
 use Prim.Native.Nat.{ℕ, zero, suc, _+_, _≤_, _<_}
 use native.Mathlib.Omega.{arith}
-use native.Mathlib.Nat.{add-zero, add-suc, suc-add}
-use lib.Dec.{T, eqb, ltb, leb, eqb→eq, eqb-refl}
-use lib.ListN.{length}
+use lib.Dec.{T, eqb, eqb→eq, eqb-refl}
 use lib.Arith.{lt-of-le-ne}
 use borrow.Author.Tests.{eqb-false}
-use Rattle.lists.specs.Lists.{range, consIf, keep, any, all, each, isIn}
+use Rattle.lists.specs.Lists.{range, consIf, keep, any, each, isIn}
 
 -- a test that passes is true, and back
 pub T→eq : (b : Bool) → T b → b ≡ true

@@ -1,6 +1,6 @@
 -- Places and numbers: those of samples and cubes determine each other, and lie below their counts. Assumes nothing.
 use mathlib.Core.Path.{_≡_, sym, ap, _∙_}
-use Prim.Native.Nat.{ℕ, _+_, _-_, _*_, _/_, _%_, _≤_, _<_}
+use Prim.Native.Nat.{ℕ, _+_, _-_, _*_, _/_, _%_, _<_}
 use native.Mathlib.Omega.{arith}
 use native.Mathlib.Nat.{mod-lt, div-lt-iff-lt-mul, div-div-eq-div-mul, div-add-mod', mul-pos}
 use lib.Arith.{digits-lt, digits-div, digits-mod}

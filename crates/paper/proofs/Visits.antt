@@ -1,7 +1,6 @@
 -- The visited cubes: a cube is in the list exactly when steps from the start lead to it. Assumes nothing.
-use mathlib.Core.Path.{_≡_, sym, subst}
-use mathlib.Core.Bool.{Bool, _&&_}
-use mathlib.Core.List.{List}
+use mathlib.Core.Path.{sym, subst}
+use mathlib.Core.Bool.{_&&_}
 use Prim.Native.Nat.{ℕ, _+_, _≤_, _<_}
 use native.Mathlib.Omega.{arith}
 use lib.Dec.{T, ltb, leb, eqb, ltb→lt, lt→ltb, leb→le}
@@ -10,7 +9,7 @@ use Rattle.lists.proofs.Member.{and-left, and-right, and3, both3, any-each, any
 use Rattle.lists.proofs.Closure.{sound, complete, reached-lt}
 use Rattle.paper.specs.declared.Sizes.{Sizes}
 use Rattle.paper.specs.declared.Place.{Place}
-use Rattle.paper.specs.Lattice.{Lattice, Face, axis, axes, cubes, cubeNo, cubeAt, inLattice, mixedAt, faces, stepOver, steps, Visited, visited}
+use Rattle.paper.specs.Lattice.{Lattice, axis, axes, cubes, cubeNo, cubeAt, inLattice, mixedAt, faces, stepOver, steps, Visited, visited}
 use Rattle.paper.specs.Within.{Sized, CubeIn}
 use Rattle.paper.proofs.Numbers.{cube-lt}
 

@@ -2,11 +2,11 @@
 use mathlib.Core.Path.{_≡_, refl, sym, ap, subst, _∙_}
 use mathlib.Core.Bool.{Bool, true, false, cond, not, _&&_}
 use mathlib.Core.List.{List, [], _∷_, map}
-use Prim.Native.Nat.{ℕ, _+_, _-_, _*_, _/_, _%_, _^_, _≤_, _<_}
+use Prim.Native.Nat.{ℕ, _+_, _-_, _*_, _<_}
 use native.Mathlib.Omega.{arith}
 use lib.IntN.{ℤ, pos}
 use lib.Dec.{T, eqb, eqb→eq, eqb-refl, ltb, ltb→lt, lt→ltb}
-use lib.ListN.{length, getD}
+use lib.ListN.{getD}
 use Rattle.lists.specs.Lists.{range, consIf, isIn}
 use Rattle.lists.proofs.Member.{T→eq, and-left, and-right, and-both, or-left, any-each, in-consIf}
 use Rattle.lists.proofs.Every.{any-at, at-any}
@@ -14,9 +14,9 @@ use Rattle.lists.proofs.Runs.{at-along}
 use Rattle.lists.proofs.Computed.{Test8, every8, every8-at, upto, upto-at, below6}
 use Rattle.paper.specs.declared.Sizes.{Sizes}
 use Rattle.paper.specs.declared.Place.{Place}
-use Rattle.paper.specs.Lattice.{Lattice, lattice, air, sampleNo, valueAt, airAt, corner, mixed, mixedAt, crossed, cubes, cubeNo, cubeAt, inLattice, Face, face, place, faces, stepOver, steps}
+use Rattle.paper.specs.Lattice.{Lattice, lattice, air, sampleNo, valueAt, airAt, corner, mixed, mixedAt, crossed, cubes, cubeNo, cubeAt, inLattice, face, place, faces, stepOver, steps}
 use Rattle.paper.specs.Sheet.{weight}
-use Rattle.paper.specs.Within.{Sized, Full, CubeIn}
+use Rattle.paper.specs.Within.{CubeIn}
 use Rattle.lists.proofs.Closure.{bool-same}
 use Rattle.paper.proofs.Numbers.{cube-place}
 use Rattle.paper.proofs.Visits.{in-lattice, lattice-in}

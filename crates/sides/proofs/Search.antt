@@ -4,7 +4,6 @@ use mathlib.Core.Bool.{true, false}
 use Prim.Native.Nat.{ℕ, _+_, _-_, _*_, _<_}
 use native.Mathlib.Omega.{arith}
 use native.Mathlib.Decide.{decLt}
-use Rattle.lists.specs.Lists.{range}
 use Rattle.lists.proofs.Runs.{first-at, first-none}
 use Rattle.paper.specs.Lattice.{Lattice, crossed, cubes, cubeNo, place, lowest}
 

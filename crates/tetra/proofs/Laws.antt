@@ -1,30 +1,30 @@
 -- A cube's edges and triangles by its pattern are those of the definitions. Assumes nothing.
 use mathlib.Core.Path.{_≡_, refl, sym, ap, subst, _∙_}
-use mathlib.Core.Logic.{_⊎_, inl, inr}
+use mathlib.Core.Logic.{inl, inr}
 use mathlib.Core.Bool.{Bool, true, false, not, xor, _&&_, _||_}
 use mathlib.Core.List.{List, [], _∷_, map}
 use Prim.Native.Nat.{ℕ, zero, suc, _+_, _-_, _*_, _/_, _%_, _≤_, _<_}
 use native.Mathlib.Nat.{mul-le-mul}
 use native.Mathlib.Omega.{arith}
-use lib.Dec.{T, eqb, eqb→eq, eqb-refl, ltb}
+use lib.Dec.{T, eqb, eqb→eq}
 use lib.ListN.{length, getD}
 use Rattle.lists.specs.Lists.{range, keep, any, each, isIn}
-use Rattle.lists.proofs.Member.{or-cases, or-left, or-right, and-both, and-left, and-right, and3, any-each, any-in, in-any, range-in}
-use Rattle.lists.proofs.Every.{All, any-at, at-any, each-same, each-map, map-same, any-same, any-map-keep}
+use Rattle.lists.proofs.Member.{or-cases, and-left, and-right, and3, any-each, any-in, in-any, range-in}
+use Rattle.lists.proofs.Every.{any-at, at-any, each-same, map-same, any-same, any-map-keep}
 use Rattle.lists.proofs.Closure.{bool-same}
 use Rattle.lists.proofs.Runs.{at-along, getD-map-lt}
 use Rattle.lists.proofs.Computed.{upto, upto-at, grid, grid-at}
 use Rattle.paper.specs.declared.Sizes.{Sizes}
 use Rattle.paper.specs.declared.Place.{Place}
 use Rattle.paper.specs.Lattice.{Lattice, sampleNo, airAt, corner, cubeAt}
-use Rattle.paper.specs.Tables.{Ends, Tet, Tri, ends, tet, tri, tets, rows, tetEdges, kinds, low, joins, kindOf}
+use Rattle.paper.specs.Tables.{Ends, Tri, ends, tet, tri, tets, rows, tetEdges, kinds, low, joins, kindOf}
 use Rattle.paper.specs.Sheet.{edgeNo, split, cubeEdges, weight, rowOf, rowAt, tetEdge, triEdges, cubeTriangles, corners3}
 use Rattle.paper.specs.Within.{Sized}
 use Rattle.lattice.specs.Steps.{cornerStep}
 use Rattle.lattice.proofs.Laws.{corner-no, floor-few}
 use Rattle.sides.specs.Pattern.{patternAt, bitOf}
 use Rattle.sides.proofs.Laws.{pattern-bit}
-use Rattle.tetra.specs.Cut.{tetAt, tetCorner, tetEnds, rowBy, edgeStep, tetStep, tetSteps, rowCount, rowEdge, rowTriangles, trianglesBy, locals, localAt, localSplit, localStep, localSteps, edgesBy}
+use Rattle.tetra.specs.Cut.{tetAt, tetCorner, tetEnds, rowBy, edgeStep, tetStep, tetSteps, rowCount, rowEdge, rowTriangles, trianglesBy, locals, localAt, localSplit, localStep, edgesBy}
 use Rattle.tetra.proofs.Tables.{tet-corner-lt, low-lt, kind-lt, local-lt}
 
 -- ── steps are small ──

@@ -1,15 +1,14 @@
 -- The code's tables are the definitions', each by a test at every entry. Assumes nothing.
-use mathlib.Core.Path.{_≡_, refl}
-use mathlib.Core.Bool.{Bool, true, false, _&&_, _||_}
+use mathlib.Core.Path.{_≡_}
+use mathlib.Core.Bool.{Bool, _&&_, _||_}
 use mathlib.Core.List.{List, [], _∷_}
-use Prim.Native.Nat.{ℕ, _+_, _-_, _*_, _≤_, _<_}
+use Prim.Native.Nat.{ℕ, _-_, _*_, _≤_, _<_}
 use native.Mathlib.Omega.{arith}
 use lib.Dec.{T, eqb, eqb→eq, ltb, ltb→lt, leb, leb→le}
-use lib.ListN.{length, getD}
-use Rattle.lists.specs.Lists.{range, first, each}
+use lib.ListN.{getD}
 use mathlib.Core.Logic.{inl, inr}
 use Rattle.lists.proofs.Member.{and3, or-cases}
-use Rattle.lists.proofs.Computed.{upto, upto-at, grid, grid-at}
+use Rattle.lists.proofs.Computed.{upto-at, grid, grid-at}
 use Rattle.paper.specs.Tables.{tets, rows, tetEdges, kinds, low, joins, kindOf}
 use Rattle.tetra.specs.Cut.{tetAt, tetCorner, tetEnds, rowCount, rowEdge, locals, localAt}
 

@@ -1,12 +1,12 @@
 -- A cube's edges and triangles, by its pattern and its lowest sample. Assumes nothing.
-use mathlib.Core.Bool.{Bool, true, false, not}
+use mathlib.Core.Bool.{Bool, not}
 use mathlib.Core.List.{List, [], _∷_, map}
 use Prim.Native.Nat.{ℕ, _+_, _-_, _*_, _/_, _%_}
 use lib.Dec.{eqb}
 use lib.ListN.{length, getD}
 use Rattle.lists.specs.Lists.{range, keep, each}
 use Rattle.paper.specs.declared.Sizes.{Sizes}
-use Rattle.paper.specs.Tables.{Ends, Tet, Tri, ends, tet, tri, tets, rows, tetEdges, kinds, low, kindOf}
+use Rattle.paper.specs.Tables.{Ends, Tet, Tri, ends, tet, tri, tets, rows, tetEdges, low, kindOf}
 use Rattle.paper.specs.Sheet.{corners3}
 use Rattle.lattice.specs.Steps.{cornerStep}
 use Rattle.sides.specs.Pattern.{bitOf}

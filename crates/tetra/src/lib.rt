@@ -1,9 +1,8 @@
 // Six tetrahedra and sixteen rows: the edges and the triangles of a cube, by its pattern.
 use paper::Sizes;
 ghost use mathlib.Core.Path.{_≡_};
-ghost use mathlib.Core.List.{map};
 ghost use Prim.Native.Nat.{_+_, _*_, _≤_, _<_};
-ghost use lib.ListN.{length, getD};
+ghost use lib.ListN.{getD};
 ghost use Rattle.paper.specs.Tables.{tri};
 ghost use Rattle.paper.specs.Within.{Sized};
 ghost use Rattle.lattice.specs.Steps.{cornerStep};

@@ -1,12 +1,11 @@
 -- Both signed numbers are at least 0, so the division is one of naturals. Assumes nothing.
-use mathlib.Core.Path.{_≡_, refl, sym, ap, _∙_}
-use Prim.Native.Nat.{ℕ, _+_, _*_, _/_, _<_, _≤_, _^_}
+use mathlib.Core.Path.{_≡_, refl, ap}
+use Prim.Native.Nat.{ℕ, _+_}
 use native.Mathlib.Omega.{arith}
-use lib.IntN.{ℤ, pos, natAbs, negℤ, _-ℤ_, _*ℤ_}
+use lib.IntN.{pos, natAbs, _-ℤ_}
 use mir.Syntax.{w16, w32}
-use mir.Val.{SFits, toZ, ofZ}
+use mir.Val.{toZ, ofZ}
 use mir.Facts.{toZ-pos}
-use Rattle.paper.specs.Sheet.{crossing}
 use Rattle.crossing.proofs.Ints.{widens, widened}
 use Rattle.crossing.proofs.Laws.{solid-neg, difference, size, air-pos, crossing-nat, crossing-range}
 use Rattle.crossing.proofs.crossing_of.Statement.{statement}

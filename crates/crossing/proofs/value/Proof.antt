@@ -1,10 +1,10 @@
 -- The machine reads the sample back from its bits. Assumes nothing.
 use borrow.Author.Needs.{needs}
-use mathlib.Core.Path.{_≡_, ap, _∙_}
+use mathlib.Core.Path.{ap, _∙_}
 use Prim.Native.Nat.{ℕ}
 use mir.Facts.{toZ-ofZ}
 use mir.Syntax.{w16}
-use lib.IntN.{ℤ, pos}
+use lib.IntN.{pos}
 use lib.ListN.{getD}
 use denote.Ref.{now}
 use Rattle.paper.specs.Lattice.{valueAt}

@@ -1,21 +1,17 @@
 -- The end that is air is the one that the record goes towards. Assumes nothing.
 use borrow.Author.Needs.{needs}
-use mathlib.Core.Path.{_≡_, refl, sym, ap, subst, _∙_}
-use mathlib.Core.Bool.{Bool}
-use mathlib.Core.List.{List}
-use Prim.Native.Nat.{ℕ, _+_, _*_}
+use mathlib.Core.Path.{_≡_, sym, ap, subst, _∙_}
+use Prim.Native.Nat.{_+_, _*_}
 use native.Mathlib.Omega.{arith}
-use lib.IntN.{ℤ}
 use mir.Facts.{toZ-ofZ}
 use mir.Syntax.{w16}
 use denote.Ref.{now}
-use Rattle.paper.specs.declared.Place.{Place}
 use Rattle.paper.specs.Lattice.{Lattice, lattice, air, valueAt, airAt, corner}
 use Rattle.paper.specs.Sheet.{recordAt}
 use Rattle.paper.specs.Within.{SampleIn}
 use Rattle.lattice.proofs.Laws.{samples-few}
-use Rattle.crossing.specs.Vertex.{NearPlaces, endsOf}
-use Rattle.crossing.proofs.Records.{from, to, edge, near, first-air, first-solid, record-air, record-solid}
+use Rattle.crossing.specs.Vertex.{endsOf}
+use Rattle.crossing.proofs.Records.{near, first-air, first-solid, record-air, record-solid}
 use Rattle.crossing.proofs.vertex_on.Statement.{statement}
 use Rattle.crossing.proofs.vertex_on.Tie as tie
 

@@ -1,12 +1,12 @@
 -- After f faces the state is that of f pushes. Assumes nothing.
 use borrow.Author.Needs.{needs}
-use mathlib.Core.Path.{_≡_, refl, sym, ap, _∙_}
-use Prim.Native.Nat.{_≤_, _<_, _-_}
+use mathlib.Core.Path.{_≡_, refl}
+use Prim.Native.Nat.{_≤_, _-_}
 use native.Mathlib.Omega.{arith}
 use denote.Ref.{now}
 use Rattle.paper.specs.Lattice.{Lattice, lattice, cubes, cubeNo}
 use Rattle.sides.specs.Pattern.{stepTo}
-use Rattle.flood.specs.Flow.{Flow, flow, push, pushes, Roomy}
+use Rattle.flood.specs.Flow.{Flow, flow, pushes}
 use Rattle.flood.specs.Flooded.{wordOf}
 use Rattle.flood.proofs.Laws.{Kept, pushes-kept-of, pushes-step, roomy-kept}
 use Rattle.flood.proofs.Finish.{word-some}

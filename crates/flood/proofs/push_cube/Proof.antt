@@ -1,12 +1,12 @@
 -- By the two cases of a push. Assumes nothing.
 use borrow.Author.Needs.{needs}
-use mathlib.Core.Path.{_≡_, refl, sym, ap, subst, _∙_}
-use Prim.Native.Nat.{ℕ, _+_, _<_}
+use mathlib.Core.Path.{_≡_, sym, ap, _∙_}
+use Prim.Native.Nat.{ℕ, _<_}
 use native.Mathlib.Omega.{arith}
-use lib.ListN.{length, getD, set}
+use lib.ListN.{getD}
 use denote.Ref.{now}
 use Rattle.paper.specs.Lattice.{Lattice, lattice, cubes, cubeNo}
-use Rattle.flood.specs.Flow.{Flow, flow, push}
+use Rattle.flood.specs.Flow.{Flow, flow}
 use Rattle.flood.specs.Flooded.{wordOf}
 use Rattle.flood.proofs.Laws.{push-marked, push-new, push-room}
 use Rattle.flood.proofs.Finish.{word-some}

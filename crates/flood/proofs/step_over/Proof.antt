@@ -1,13 +1,11 @@
 -- There is a step where the face is mixed and a cube is beyond it. Assumes nothing.
 use borrow.Author.Needs.{needs}
 use borrow.Author.Tests.{not-true, not-false}
-use mathlib.Core.Path.{_≡_, refl, sym, ap, subst, _∙_}
+use mathlib.Core.Path.{sym, ap, _∙_}
 use Prim.Native.Nat.{ℕ}
 use denote.Ref.{now}
 use Rattle.lists.proofs.Member.{eq→T}
 use Rattle.paper.specs.Lattice.{Lattice, lattice, cubes, cubeNo}
-use Rattle.paper.specs.declared.Place.{Place}
-use Rattle.sides.specs.Pattern.{stepTo, faceAt}
 use Rattle.flood.specs.Flow.{Flow, flow, push}
 use Rattle.flood.specs.Flooded.{wordOf}
 use Rattle.flood.proofs.Steps.{step-solid, step-edge, step-on}

@@ -1,9 +1,8 @@
 -- The pattern, and 256. Assumes nothing.
-use mathlib.Core.Path.{_≡_, sym, ap, _∙_}
-use Prim.Native.Nat.{ℕ, _+_, _<_}
+use mathlib.Core.Path.{sym, ap, _∙_}
+use Prim.Native.Nat.{ℕ, _+_}
 use native.Mathlib.Omega.{arith}
 use denote.Ref.{now}
-use Rattle.paper.specs.declared.Place.{Place}
 use Rattle.paper.specs.Lattice.{lattice}
 use Rattle.paper.proofs.Numbers.{cube-place}
 use Rattle.sides.specs.Pattern.{patternAt}

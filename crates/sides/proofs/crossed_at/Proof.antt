@@ -1,5 +1,5 @@
 -- By the cube's pattern. Assumes nothing.
-use mathlib.Core.Path.{_≡_, sym, ap, _∙_}
+use mathlib.Core.Path.{sym, ap, _∙_}
 use denote.Ref.{now}
 use Rattle.paper.specs.Lattice.{lattice}
 use Rattle.sides.specs.Pattern.{crossedBy}

@@ -1,5 +1,5 @@
 -- The bit at the corner. Assumes nothing.
-use mathlib.Core.Path.{_≡_, ap, _∙_}
+use mathlib.Core.Path.{ap, _∙_}
 use Prim.Native.Nat.{ℕ}
 use Rattle.sides.specs.Pattern.{bitOf}
 use borrow.Author.Needs.{needs}

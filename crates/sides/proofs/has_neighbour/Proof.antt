@@ -1,6 +1,5 @@
 -- By the rule of each face. Assumes nothing.
 use mathlib.Core.Path.{_≡_, sym, ap, _∙_}
-use Prim.Native.Nat.{ℕ}
 use Rattle.lists.proofs.Computed.{sixth}
 use Rattle.sides.specs.Pattern.{neighbours}
 use Rattle.sides.proofs.Laws.{beside-0, beside-1, beside-2, beside-3, beside-4, beside-5}

@@ -1,5 +1,4 @@
 -- By the number of the face's air corners. Assumes nothing.
-use mathlib.Core.Path.{_≡_, sym, ap, _∙_}
 use borrow.Author.Tests.{eq-eqb, ne-eqb}
 use Rattle.sides.specs.Pattern.{mixedBy, airsBy}
 use borrow.Author.Needs.{needs}

@@ -1,10 +1,10 @@
 -- The sides of the two faces across x, side by side. Assumes nothing.
-use mathlib.Core.Path.{_≡_, ap, subst, sym, _∙_}
+use mathlib.Core.Path.{_≡_, ap, _∙_}
 use Prim.Native.Nat.{ℕ, _+_, _*_, _<_}
 use native.Mathlib.Omega.{arith}
 use lib.ListN.{length}
 use denote.Ref.{now}
-use Rattle.paper.specs.Lattice.{lattice, sampleNo}
+use Rattle.paper.specs.Lattice.{lattice}
 use Rattle.lattice.proofs.Laws.{floor-few, far-lt}
 use Rattle.sides.specs.Pattern.{patternAt, quarterAt}
 use Rattle.sides.proofs.Laws.{pattern-quarters, pattern-lt}

@@ -1,5 +1,5 @@
 -- The place of the definition's face, face by face. Assumes nothing.
-use mathlib.Core.Path.{_≡_, refl}
+use mathlib.Core.Path.{refl}
 use Rattle.lists.proofs.Computed.{sixth}
 use Rattle.paper.specs.Lattice.{faces}
 use Rattle.sides.specs.Pattern.{faceAt}

@@ -1,5 +1,4 @@
 -- The four sides with their weights. Assumes nothing.
-use mathlib.Core.Path.{_≡_, refl}
 use native.Mathlib.Omega.{arith}
 use Rattle.sides.specs.Pattern.{quarterAt}
 use borrow.Author.Needs.{needs}

@@ -1,5 +1,5 @@
 -- The machine reads the sample back from its bits. Assumes nothing.
-use mathlib.Core.Path.{_≡_, ap, _∙_}
+use mathlib.Core.Path.{ap, _∙_}
 use mir.Facts.{toZ-ofZ}
 use mir.Syntax.{w16}
 use lib.IntN.{ℤ, pos}

@@ -1,6 +1,5 @@
 -- A corner's step is one, a row and a layer, each or not. Assumes nothing.
-use borrow.Author.Needs.{needs}
-use mathlib.Core.Path.{_≡_, refl}
+use mathlib.Core.Path.{refl}
 use native.Mathlib.Omega.{arith}
 use Rattle.lattice.specs.Steps.{cornerStep}
 use Rattle.lattice.proofs.Laws.{floor-few}

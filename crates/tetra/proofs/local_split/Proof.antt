@@ -1,6 +1,6 @@
 -- The bits at the two ends differ. Assumes nothing.
 use borrow.Author.Needs.{needs}
-use mathlib.Core.Path.{_≡_, ap, _∙_}
+use mathlib.Core.Path.{ap, _∙_}
 use mathlib.Core.Bool.{not}
 use lib.Dec.{eqb}
 use Rattle.sides.specs.Pattern.{bitOf}

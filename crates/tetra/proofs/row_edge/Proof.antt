@@ -1,6 +1,5 @@
 -- The table is the definition's, and has an edge there. Assumes nothing.
 use borrow.Author.Needs.{needs}
-use mathlib.Core.Path.{_≡_}
 use native.Mathlib.Omega.{arith}
 use Rattle.tetra.proofs.Tables.{edgeTable, count-le, edge-at}
 use Rattle.tetra.proofs.row_edge.Statement.{statement}

@@ -1,6 +1,6 @@
 -- The bit at the corner. Assumes nothing.
 use borrow.Author.Needs.{needs}
-use mathlib.Core.Path.{_≡_, ap, _∙_}
+use mathlib.Core.Path.{ap, _∙_}
 use Rattle.sides.specs.Pattern.{bitOf}
 use Rattle.tetra.proofs.tet_bit.Statement.{statement}
 use Rattle.tetra.proofs.tet_bit.Tie as tie

@@ -1,7 +1,6 @@
 -- The steps so far are the definition's. Assumes nothing.
-use borrow.Author.Needs.{needs}
-use mathlib.Core.Path.{_≡_, refl}
-use Prim.Native.Nat.{ℕ, _-_, _/_, _%_, _≤_, _<_}
+use mathlib.Core.Path.{refl}
+use Prim.Native.Nat.{_-_, _/_, _%_}
 use native.Mathlib.Omega.{arith}
 use Rattle.lists.proofs.Filled.{Filled, filled-none, filled-more, filled-all}
 use Rattle.tetra.specs.Cut.{tetStep, tetSteps}
