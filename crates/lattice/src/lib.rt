@@ -3,8 +3,33 @@ use paper::Place;
 use paper::Sizes;
 ghost use mathlib.Core.Path.{_≡_};
 ghost use Prim.Native.Nat.{_+_, _≤_, _<_};
-ghost use Rattle.paper.specs.Lattice.{samples, sampleNo, sampleAt, cubes, cubeNo, cubeAt};
+ghost use Rattle.paper.specs.Lattice.{axis, axes, samples, sampleNo, sampleAt, cubes, cubeNo, cubeAt};
 ghost use Rattle.paper.specs.Within.{Sized, SampleIn, CubeIn};
+
+// "An axis has 2 to 64 samples."
+fn axis_passes(n: usize) -> bool
+    ensures { λ r. ⌜ r ≡ axis n ⌝ }
+{
+    if n < 2 {
+        return false;
+    }
+    n <= 64
+}
+
+// Test 1.
+pub fn axes_pass(sizes: Sizes) -> bool
+    ensures { λ r. ⌜ r ≡ axes sizes ⌝ }
+{
+    let x = axis_passes(sizes.nx);
+    if !x {
+        return false;
+    }
+    let y = axis_passes(sizes.ny);
+    if !y {
+        return false;
+    }
+    axis_passes(sizes.nz)
+}
 
 // How many samples there are.
 pub fn sample_count(sizes: Sizes) -> usize

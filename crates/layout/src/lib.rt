@@ -5,32 +5,11 @@ ghost use mathlib.Core.Path.{_≡_};
 ghost use Prim.Native.Nat.{_+_, _*_, _<_, _≤_};
 ghost use lib.IntN.{pos};
 ghost use lib.ListN.{length, getD};
-ghost use Rattle.paper.specs.Lattice.{axis, axes};
 ghost use Rattle.paper.specs.Tests.{judge};
 ghost use Rattle.paper.specs.File.{firstBad, limits, trailer, fileV, fileT, fileSizes, fileVertices, fileTriangles, laidOut, fileTests};
 ghost use Rattle.layout.specs.Laid.{anyFrom, Ranged};
 
 // ── tests ──
-
-// "An axis has 2 to 64 samples."
-fn axis_fits(n: usize) -> bool
-    ensures { λ r. ⌜ r ≡ axis n ⌝ }
-{
-    2 <= n && n <= 64
-}
-
-// 1: "an axis is outside 2..64"
-pub fn axes_fit(z: Sizes) -> bool
-    ensures { λ r. ⌜ r ≡ axes z ⌝ }
-{
-    if !axis_fits(z.nx) {
-        return false;
-    }
-    if !axis_fits(z.ny) {
-        return false;
-    }
-    axis_fits(z.nz)
-}
 
 // "V is at most 2,000,000 and T at most 4,000,000."
 pub fn within_limits(nv: usize, nt: usize) -> bool
@@ -170,7 +149,7 @@ pub fn tested(bytes: &[u8]) -> Verdict
             place: 0,
         };
     }
-    if !axes_fit(sizes_of(bytes)) {
+    if !lattice::axes_pass(sizes_of(bytes)) {
         return Verdict {
             number: 1,
             place: 0,

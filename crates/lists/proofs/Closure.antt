@@ -9,7 +9,7 @@ use lib.Dec.{T, eqb, eqb→eq, eqb-refl}
 use lib.ListN.{length}
 use Rattle.lists.specs.Lists.{range, consIf, keep, any, each, isIn}
 use Rattle.lists.specs.Reach.{Reach, here, step, grow, rounds, reached}
-use Rattle.lists.proofs.Member.{or-cases, or-left, or-right, and-both, and-left, and-right, any-append, any-each, any-in, in-any, in-keep, in-range, range-in}
+use Rattle.lists.proofs.Member.{T→eq, or-cases, or-left, or-right, and-both, and-left, and-right, any-append, any-each, any-in, in-any, in-keep, in-range, range-in}
 
 -- of two tests, the second of which passes where the first does: they keep the same, or the second keeps more
 data Kept (a b : List ℕ) : Type 0 where

@@ -136,6 +136,10 @@ module _ {A B : Type 0} where
   map-same f g h [] = refl
   map-same f g h (x ∷ xs) = λ i. h x i ∷ map-same f g h xs i
 
+  pub map-same-in : (f g : A → B) (l : List A) → All (λ x. f x ≡ g x) l → map f l ≡ map g l
+  map-same-in f g [] h = refl
+  map-same-in f g (x ∷ xs) h = λ i. h .0 i ∷ map-same-in f g xs (h .1) i
+
   pub each-map : {C : Type 0} (f : B → List C) (g : A → B) (l : List A) → each f (map g l) ≡ each (λ x. f (g x)) l
   each-map f g [] = refl
   each-map f g (x ∷ xs) = ap (λ (l : List _). f (g x) ++ l) (each-map f g xs)

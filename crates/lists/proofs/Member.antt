@@ -1,7 +1,7 @@
 -- Membership by a test, `isIn l k`, in each of the lists that the definitions make: equations of tests. Assumes nothing.
 use mathlib.Core.Path.{_≡_, refl, sym, ap, subst, _∙_}
 use mathlib.Core.Logic.{_⊎_, inl, inr}
-use mathlib.Core.Bool.{Bool, true, false, _&&_, _||_, or-assoc, and-false}
+use mathlib.Core.Bool.{Bool, true, false, _&&_, _||_, or-assoc, and-false, xor}
 use mathlib.Core.List.{List, [], _∷_, _++_}
 use Prim.Native.Nat.{ℕ, zero, suc, _+_, _≤_, _<_}
 use native.Mathlib.Omega.{arith}
@@ -41,6 +41,14 @@ and-left false b t = t
 pub and-right : (a b : Bool) → T (a && b) → T b
 and-right true b t = t
 and-right false b t = absurd t
+
+-- different, either way round
+pub xor-turn : (a b : Bool) → xor a b ≡ xor b a
+unfolding xor
+xor-turn true true = refl
+xor-turn true false = refl
+xor-turn false true = refl
+xor-turn false false = refl
 
 -- three tests at once
 pub and3 : (a b c : Bool) → T (a && b && c) → T a × T b × T c

@@ -1,13 +1,13 @@
 -- A cube's edges as numbers of the lattice: the number gives the anchor and the kind back, a vertex record reads the edge's own
 -- ends, and the three edges of a triangle give its cube. Assumes nothing.
-use mathlib.Core.Path.{_≡_, refl, ap, _∙_}
+use mathlib.Core.Path.{_≡_, subst, refl, ap, _∙_}
 use mathlib.Core.Logic.{_⊎_, inl, inr}
 use mathlib.Core.Bool.{Bool, true, false, cond, xor, _&&_, _||_}
 use Prim.Native.Nat.{ℕ, _+_, _*_, _/_, _%_, min, _<_}
 use native.Mathlib.Omega.{arith}
 use lib.Dec.{T, eqb, ltb, eqb→eq, ltb→lt}
 use lib.ListN.{getD}
-use Rattle.lists.proofs.Member.{or-cases, and-left, and-right, and3}
+use Rattle.lists.proofs.Member.{or-cases, and-left, and-right, and3, xor-turn}
 use Rattle.lists.proofs.Every.{All}
 use Rattle.paper.specs.declared.Sizes.{Sizes}
 use Rattle.paper.specs.declared.Place.{Place}
@@ -30,7 +30,7 @@ cubeOf z t =
     let c = anchorOf z (t .c) in
     place (min (min (a .x) (b .x)) (c .x)) (min (min (a .y) (b .y)) (c .y)) (min (min (a .z) (b .z)) (c .z))
 
-both-in : (e : Ends) → T (inCube e) → (e .a < 8) × (e .b < 8)
+pub both-in : (e : Ends) → T (inCube e) → (e .a < 8) × (e .b < 8)
 unfolding inCube
 both-in e h = (ltb→lt (e .a) 8 (and-left (ltb (e .a) 8) (ltb (e .b) 8) h), ltb→lt (e .b) 8 (and-right (ltb (e .a) 8) (ltb (e .b) 8) h))
 
@@ -143,13 +143,6 @@ standing-at L n u v false true j hu hv eu ev x = record {
 }
 standing-at L n u v false false j hu hv eu ev x = absurd x
 
-xor-turn : (b c : Bool) → T (xor b c) → T (xor c b)
-unfolding xor
-xor-turn true true x = x
-xor-turn true false x = x
-xor-turn false true x = x
-xor-turn false false x = x
-
 -- an edge of a cube whose ends are on different sides has such a vertex
 pub edge-stands : (L : Lattice) (p : Place) → CubeIn (L .size) p → (e : Ends) → T (kindHas e) → T (split L p e)
     → Standing L (edgeNo (L .size) p e)
@@ -163,7 +156,7 @@ edge-stands L p hp e hk hs =
     let hv = corner-inside z p hp (e .b) (g .1) in
     elim (edge-ends z p hp e hk) [
       | inl j ↦ standing-at L (edgeNo z p e) u v (airAt L u) (airAt L v) j hu hv refl refl hs
-      | inr j ↦ standing-at L (edgeNo z p e) v u (airAt L v) (airAt L u) j hv hu refl refl (xor-turn (airAt L u) (airAt L v) hs)
+      | inr j ↦ standing-at L (edgeNo z p e) v u (airAt L v) (airAt L u) j hv hu refl refl (subst T (xor-turn (airAt L u) (airAt L v)) hs)
     ]
 
 module _ (L : Lattice) (s : Sized (L .size)) (k : ℕ) (h : k < cubes (L .size)) where

@@ -11,6 +11,7 @@ use Rattle.paper.specs.declared.Verdict.{Verdict}
 use Rattle.paper.specs.Lattice.{axis, axes}
 use Rattle.paper.specs.Tests.{Test, verdict, judge}
 use Rattle.paper.specs.Within.{Sized}
+use Rattle.paper.proofs.Visits as Visits
 
 pub both : (a b : Bool) → (a && b) ≡ true → (a ≡ true) × (b ≡ true)
 both true b e = (refl, e)
@@ -77,21 +78,7 @@ judge-none l h e = passed-judge l (judge-all l h e)
 
 -- test 1
 pub sized : (z : Sizes) → axes z ≡ true → Sized z
-unfolding axes axis
-sized z e =
-    let a = both (axis (z .nx) && axis (z .ny)) (axis (z .nz)) e in
-    let b = both (axis (z .nx)) (axis (z .ny)) (a .0) in
-    let x = both (leb 2 (z .nx)) (leb (z .nx) 64) (b .0) in
-    let y = both (leb 2 (z .ny)) (leb (z .ny) 64) (b .1) in
-    let w = both (leb 2 (z .nz)) (leb (z .nz) 64) (a .1) in
-    record {
-      x-low = leb-true 2 (z .nx) (x .0);
-      x-high = leb-true (z .nx) 64 (x .1);
-      y-low = leb-true 2 (z .ny) (y .0);
-      y-high = leb-true (z .ny) 64 (y .1);
-      z-low = leb-true 2 (z .nz) (w .0);
-      z-high = leb-true (z .nz) 64 (w .1);
-    }
+sized z e = Visits.sized z (subst T (sym e) tt)
 
 pub sized-axes : (z : Sizes) → Sized z → axes z ≡ true
 unfolding axes axis

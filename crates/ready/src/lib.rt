@@ -5,7 +5,7 @@ use paper::Start;
 ghost use mathlib.Core.Path.{_≡_};
 ghost use Prim.Native.Nat.{_≤_, _<_};
 ghost use lib.ListN.{length};
-ghost use Rattle.paper.specs.Lattice.{lattice, axis, axes, cubes, inLattice};
+ghost use Rattle.paper.specs.Lattice.{lattice, cubes, inLattice};
 ghost use Rattle.paper.specs.Build.{roomy};
 ghost use Rattle.paper.specs.Within.{Sized, Full};
 ghost use Rattle.ready.specs.Ready.{Readied, Chosen, NamedChosen, LowestChosen};
@@ -14,30 +14,6 @@ ghost use Rattle.ready.specs.Ready.{Readied, Chosen, NamedChosen, Lowest
 pub struct Ready {
     pub number: usize,
     pub cube: usize,
-}
-
-fn axis_passes(n: usize) -> bool
-    ensures { λ r. ⌜ r ≡ axis n ⌝ }
-{
-    if n < 2 {
-        return false;
-    }
-    n <= 64
-}
-
-// Test 1.
-pub fn axes_pass(sizes: Sizes) -> bool
-    ensures { λ r. ⌜ r ≡ axes sizes ⌝ }
-{
-    let x = axis_passes(sizes.nx);
-    if !x {
-        return false;
-    }
-    let y = axis_passes(sizes.ny);
-    if !y {
-        return false;
-    }
-    axis_passes(sizes.nz)
 }
 
 // Test 3.
@@ -123,7 +99,7 @@ pub fn begin(
 ) -> Ready
     ensures { λ r. ⌜ Readied (lattice sizes (now (samples .entry))) start words waiting slots r ⌝ }
 {
-    let shaped = axes_pass(sizes);
+    let shaped = lattice::axes_pass(sizes);
     if !shaped {
         return Ready { number: 1, cube: 0 };
     }

@@ -6,11 +6,11 @@ use mathlib.Core.List.{List, [], _∷_, _++_, map}
 use Prim.Native.Nat.{ℕ, _+_, _-_, _*_, _/_, _%_, _≤_, _<_}
 use native.Mathlib.Omega.{arith}
 use native.Mathlib.Numerals.{add-one}
-use lib.Dec.{T, eqb, eqb·suc-zero, ltb, ltb→lt}
+use lib.Dec.{T, eqb, eqb·suc-zero}
 use lib.IntN.{ℤ}
 use lib.ListN.{length, getD, drop, List·getD-append}
 use Rattle.lists.specs.Lists.{range, keep, each, isIn, rank, over}
-use Rattle.lists.proofs.Member.{T→eq, eq→T, and-left, and-right, any-each, any-in, range-in}
+use Rattle.lists.proofs.Member.{T→eq, eq→T, xor-turn, any-each, any-in, range-in}
 use Rattle.lists.proofs.Every.{All, all-weak, all-in, in-all, each-same, each-map}
 use Rattle.lists.proofs.Closure.{keep-same}
 use Rattle.lists.proofs.Runs.{length-along, at-along}
@@ -22,8 +22,8 @@ use Rattle.paper.specs.Sheet.{Sheet, edgeNo, split, cubeEdges, vertexEdges, ver
 use Rattle.paper.specs.Build.{neededSlots}
 use Rattle.paper.specs.Within.{Sized, SampleIn, CubeIn}
 use Rattle.paper.proofs.Numbers.{cube-inside, corner-inside}
-use Rattle.paper.proofs.Tables.{inCube, kindHas, kinds-found, on-cube-edges}
-use Rattle.paper.proofs.Edges.{anchorOf, endsOf, Joined, edge-ends, in-cube}
+use Rattle.paper.proofs.Tables.{kindHas, kinds-found, on-cube-edges}
+use Rattle.paper.proofs.Edges.{anchorOf, endsOf, Joined, edge-ends, in-cube, both-in}
 use Rattle.paper.proofs.Listing.{Among, triangles-among, edges-exactly, edges-lt, visits-lt}
 use Rattle.crossing.specs.Vertex.{Crosses}
 use Rattle.crossing.specs.Vertex as C
@@ -33,13 +33,6 @@ use Rattle.triangles.specs.Named.{numberOf, byNumber, wordsFor}
 use Rattle.sheet.specs.Measured.{slotsOf}
 
 -- ── every vertex edge crosses ──
-
-xor-turn : (b c : Bool) → xor b c ≡ xor c b
-unfolding xor
-xor-turn true true = refl
-xor-turn true false = refl
-xor-turn false true = refl
-xor-turn false false = refl
 
 abbrev CrossesNo : Lattice → ℕ → Type 0
 CrossesNo L n = Crosses L (sampleAt (L .size) (n / 7)) (n % 7)
@@ -54,10 +47,6 @@ crosses-at L n u v j hu hv x = record {
   second = subst (SampleIn (L .size)) (sym (j .second)) hv;
   sides = (λ i. xor (airAt L (j .first i)) (airAt L (j .second i))) ∙ x;
 }
-
-both-in : (e : Ends) → T (inCube e) → (e .a < 8) × (e .b < 8)
-unfolding inCube
-both-in e h = (ltb→lt (e .a) 8 (and-left (ltb (e .a) 8) (ltb (e .b) 8) h), ltb→lt (e .b) 8 (and-right (ltb (e .a) 8) (ltb (e .b) 8) h))
 
 edge-crosses : (L : Lattice) (p : Place) → CubeIn (L .size) p → (e : Ends) → T (kindHas e) → T (split L p e) → CrossesNo L (edgeNo (L .size) p e)
 unfolding split

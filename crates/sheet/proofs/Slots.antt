@@ -10,7 +10,7 @@ use lib.Seq.{drop-at, drop-set-lt, getD-set-same, getD-set-other}
 use borrow.Author.Tests.{eqb-true, eqb-false, eq-eqb}
 use Rattle.lists.specs.Lists.{range, keep, each, isIn, rank, over, cleared}
 use Rattle.lists.proofs.Member.{T→eq, in-keep, in-range, range-in}
-use Rattle.lists.proofs.Every.{All, in-all, all-in}
+use Rattle.lists.proofs.Every.{All, in-all, map-same-in}
 use Rattle.lists.proofs.Closure.{keep-same}
 use Rattle.lists.proofs.Runs.{length-along, at-along, rank-kept}
 use Rattle.paper.specs.declared.Sizes.{Sizes}
@@ -18,7 +18,6 @@ use Rattle.paper.specs.Build.{neededSlots}
 use Rattle.survey.specs.Marks.{marks, used, usedOf, numberIn}
 use Rattle.survey.proofs.Laws.{marks-length}
 use Rattle.sheet.specs.Measured.{slotsOf}
-use Rattle.sheet.proofs.Words.{map-same-in}
 
 -- ── marks ──
 

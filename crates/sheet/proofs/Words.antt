@@ -9,7 +9,7 @@ use lib.ListN.{length, getD, drop, List·getD-append}
 use borrow.Author.Tests.{eq-eqb, ne-eqb}
 use Rattle.lists.specs.Lists.{range, keep, any, each, isIn, over}
 use Rattle.lists.proofs.Member.{and-left, and-right, and-both, any-each, any-in, in-any, in-range, range-in}
-use Rattle.lists.proofs.Every.{All, all-keep, in-all, each-same, each-keep}
+use Rattle.lists.proofs.Every.{All, all-keep, in-all, each-same, map-same-in, each-keep}
 use Rattle.lists.proofs.Closure.{bool-same, reached-kept}
 use Rattle.lists.proofs.Runs.{length-along, at-along}
 use Rattle.paper.specs.declared.Sizes.{Sizes}
@@ -25,10 +25,6 @@ use Rattle.tetra.proofs.Laws.{cube-triangles-by, cube-edges-by}
 use Rattle.survey.specs.Marks.{baseOf, edgesFrom, edgesWord, edgesIn, trianglesIn, edgesUpto, trianglesUpto}
 
 -- the edges by the steps are those of the definitions
-pub map-same-in : {A B : Type 0} (f g : A → B) (l : List A) → All (λ x. f x ≡ g x) l → map f l ≡ map g l
-map-same-in f g [] h = refl
-map-same-in f g (x ∷ xs) h = λ i. h .0 i ∷ map-same-in f g xs (h .1) i
-
 edges-from : (z : Sizes) (base m : ℕ) → edgesFrom (localSteps z) base m ≡ edgesBy z base m
 unfolding edgesFrom edgesBy localSteps
 edges-from z base m =

@@ -56,7 +56,7 @@ fn writable(
 ) -> Verdict
     ensures { λ r. ⌜ r ≡ writeVerdict sizes nv nt (now (vertices .entry)) (now (triangles .entry)) room ⌝ }
 {
-    if !layout::axes_fit(sizes) {
+    if !lattice::axes_pass(sizes) {
         return Verdict {
             number: 1,
             place: 0,

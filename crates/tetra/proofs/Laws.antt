@@ -9,7 +9,7 @@ use native.Mathlib.Omega.{arith}
 use lib.Dec.{T, eqb, eqb→eq}
 use lib.ListN.{length, getD}
 use Rattle.lists.specs.Lists.{range, keep, any, each, isIn}
-use Rattle.lists.proofs.Member.{or-cases, and-left, and-right, and3, any-each, any-in, in-any, range-in}
+use Rattle.lists.proofs.Member.{or-cases, and-left, and-right, and3, any-each, any-in, in-any, range-in, xor-turn}
 use Rattle.lists.proofs.Every.{any-at, at-any, each-same, map-same, any-same, any-map-keep}
 use Rattle.lists.proofs.Closure.{bool-same}
 use Rattle.lists.proofs.Runs.{at-along, getD-map-lt}
@@ -41,10 +41,6 @@ corner-small z s c h =
 pub tet-step-small : (z : Sizes) → Sized z → (t j : ℕ) → t < 6 → j < 6 → tetStep z t j ≤ 29133
 unfolding tetStep edgeStep
 tet-step-small z s t j ht hj = omega (arith, corner-small z s (low (tetEnds t j)) (low-lt t j ht hj), kind-lt t j ht hj)
-
-pub local-step-small : (z : Sizes) → Sized z → (j : ℕ) → j < 19 → localStep z j ≤ 29134
-unfolding localStep
-local-step-small z s j h = omega (arith, corner-small z s (localAt j 0) (local-lt j 0 h (omega arith)), local-lt j 1 h (omega arith))
 
 -- ── steps and rows at a place ──
 
@@ -135,7 +131,8 @@ module _ (L : Lattice) (p : Place) where
   triangles-at =
       each-same (λ t. rowTriangles z base t (rowBy (patternAt L p) t)) (λ t. map (triEdges z p (tetAt t)) (getD rows (rowAt L p (tetAt t)) [])) (range 0 6)
       (part 0 (omega arith), (part 1 (omega arith), (part 2 (omega arith), (part 3 (omega arith), (part 4 (omega arith), (part 5 (omega arith), tt))))))
-  -- ── the 19 edges are those of the tetrahedra ──
+
+-- ── the 19 edges are those of the tetrahedra ──
 
 -- edge j of the 19 is edge i of tetrahedron t
 is : ℕ → ℕ → ℕ → Bool
@@ -159,13 +156,6 @@ bits-differ true true = refl
 bits-differ true false = refl
 bits-differ false true = refl
 bits-differ false false = refl
-
-xor-turn : (x y : Bool) → xor x y ≡ xor y x
-unfolding xor
-xor-turn true true = refl
-xor-turn true false = refl
-xor-turn false true = refl
-xor-turn false false = refl
 
 module _ (L : Lattice) (p : Place) (j t i : ℕ) (hj : j < 19) (ht : t < 6) (hi : i < 6) (h : T (is j t i)) where
   abbrev e : Ends

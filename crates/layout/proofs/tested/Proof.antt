@@ -37,7 +37,7 @@ marked : (c : tie.Else2) → eqb (trailer 2 (bytes₂ c) 22) 21331 ≡ true
 marked c = eq-eqb _ 21331 (sym (c .before .trailer2 .ensures) ∙ c .if2 .left)
 
 sized : (c : tie.Else3) → axes (fileSizes (bytes₃ c)) ≡ true
-sized c = passes (c .before .axes-fit .ensures ∙ ap axes (c .before .before .sizes-of .ensures)) (c .if3 .left)
+sized c = passes (c .before .axes-pass .ensures ∙ ap axes (c .before .before .sizes-of .ensures)) (c .if3 .left)
 
 laid : (c : tie.Else4) → laidOut (bytes₄ c) ≡ true
 laid c = passes (c .before .laid-out .ensures) (c .if4 .left)
@@ -66,13 +66,13 @@ returns-2 c = rw (long (c .before .before), ne-eqb _ 21331 (λ e. c .if2 .taken 
 sizes-of-requires : tie.Need-sizes-of-requires
 sizes-of-requires c κs = search needs
 
-axes-fit-requires : tie.Need-axes-fit-requires
-axes-fit-requires c κs = search needs
+axes-pass-requires : tie.Need-axes-pass-requires
+axes-pass-requires c κs = search needs
 
 returns-3 : tie.Need-returns-3
 unfolding fileTests
 returns-3 c =
-    let bad = fails (c .before .axes-fit .ensures ∙ ap axes (c .before .before .sizes-of .ensures)) (c .if3 .taken) in
+    let bad = fails (c .before .axes-pass .ensures ∙ ap axes (c .before .before .sizes-of .ensures)) (c .if3 .taken) in
     rw (long (c .before .before .before .before .before), marked (c .before .before .before), bad)
 
 laid-out-requires : tie.Need-laid-out-requires
@@ -116,7 +116,7 @@ tested-spec =
     trailer2-requires
     returns-2
     sizes-of-requires
-    axes-fit-requires
+    axes-pass-requires
     returns-3
     laid-out-requires
     returns-4

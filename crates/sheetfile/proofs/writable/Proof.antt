@@ -29,7 +29,7 @@ args₃ c = args₂ (c .before)
 
 -- the tests that were passed there
 sized : (c : tie.Else1) → axes (args₁ c .args .sizes) ≡ true
-sized c = passes (c .before .axes-fit .ensures) (c .if1 .left)
+sized c = passes (c .before .axes-pass .ensures) (c .if1 .left)
 
 fitting : (c : tie.Else2) →
     let a = args₂ c .args in
@@ -42,12 +42,12 @@ taken c = counted _ _ _ _ (fitting c)
 good : (c : tie.Else3) → let a = args₃ (c .before) .args in eqb (firstBad (a .nv) (a .nt) (now (a .triangles))) (a .nt) ≡ true
 good c = eq-eqb _ _ (sym (c .before .first-bad .ensures) ∙ c .if3 .left)
 
-axes-fit-requires : tie.Need-axes-fit-requires
-axes-fit-requires c κs = search needs
+axes-pass-requires : tie.Need-axes-pass-requires
+axes-pass-requires c κs = search needs
 
 returns : tie.Need-returns
 unfolding writeVerdict fileLength trailerAt
-returns c = rw (fails (c .before .axes-fit .ensures) (c .if1 .taken))
+returns c = rw (fails (c .before .axes-pass .ensures) (c .if1 .taken))
 
 counts-fit-requires : tie.Need-counts-fit-requires
 counts-fit-requires c κs = search needs
@@ -105,7 +105,7 @@ pub writable-spec : {M : Type 1} → statement M
 writable-spec =
     tie.close
     (tie.spec
-    axes-fit-requires
+    axes-pass-requires
     returns
     counts-fit-requires
     returns-2

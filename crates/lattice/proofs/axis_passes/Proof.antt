@@ -1,8 +1,8 @@
 -- The two bounds. Assumes nothing.
 use borrow.Author.Tests.{lt-leb, le-leb}
 use Rattle.paper.specs.Lattice.{axis}
-use Rattle.ready.proofs.axis_passes.Statement.{statement}
-use Rattle.ready.proofs.axis_passes.Tie as tie
+use Rattle.lattice.proofs.axis_passes.Statement.{statement}
+use Rattle.lattice.proofs.axis_passes.Tie as tie
 
 returns : tie.Need-returns
 unfolding axis

@@ -3,8 +3,8 @@ use borrow.Author.Needs.{needs}
 use borrow.Author.Tests.{not-true, not-false}
 use mathlib.Core.Path.{_≡_, sym, _∙_}
 use Rattle.paper.specs.Lattice.{axes}
-use Rattle.ready.proofs.axes_pass.Statement.{statement}
-use Rattle.ready.proofs.axes_pass.Tie as tie
+use Rattle.lattice.proofs.axes_pass.Statement.{statement}
+use Rattle.lattice.proofs.axes_pass.Tie as tie
 
 axis-passes-requires : tie.Need-axis-passes-requires
 axis-passes-requires c κs = search needs
