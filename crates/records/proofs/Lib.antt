@@ -1,0 +1,3 @@
+-- Laws of the records.
+pub mod Numbers
+pub mod Laws

@@ -1,0 +1,2 @@
+-- Laws of the triangles.
+pub mod Laws
