@@ -161,15 +161,16 @@ is-fresh z words seen t e =
     let h : placeIn z words (holder z t) t < 12 = ltb-true c 12 (p .0) in
     record { place = h; cube = place-cube z words (holder z t) t h; bit = eqb-true _ _ (p .1) }
 
-pub noted-small : (z : Sizes) (words seen : List ℕ) (t : Tri) → cubes z ≤ length seen → Fresh z words seen t → Small seen → Small (noted z words seen t)
+pub noted-small : (z : Sizes) (words seen : List ℕ) (t : Tri) → cubes z ≤ length seen → Fresh z words seen t → Small (cubes z) seen
+    → Small (cubes z) (noted z words seen t)
 unfolding noted
-noted-small z words seen t h f s = record { at = λ k. go k (ℕ-discrete k (holder z t)) }
+noted-small z words seen t h f s = record { at = λ k l. go k l (ℕ-discrete k (holder z t)) }
   where
-    go : (k : ℕ) → Dec (k ≡ holder z t) → getD (set seen (holder z t) (getD seen (holder z t) 0 + 2 ^ placeOf z words t)) k 0 < 4096
-    go k (yes e) =
-        let g = set-small 12 (placeOf z words t) (getD seen (holder z t) 0) (f .place) (s .at (holder z t)) (f .bit) in
+    go : (k : ℕ) → k < cubes z → Dec (k ≡ holder z t) → getD (set seen (holder z t) (getD seen (holder z t) 0 + 2 ^ placeOf z words t)) k 0 < 4096
+    go k l (yes e) =
+        let g = set-small 12 (placeOf z words t) (getD seen (holder z t) 0) (f .place) (s .at (holder z t) (f .cube)) (f .bit) in
         rw (e, getD-set-same seen (holder z t) (getD seen (holder z t) 0 + 2 ^ placeOf z words t) 0 (omega (arith, f .cube))) g
-    go k (no e) = rw (getD-set-other seen (holder z t) k (getD seen (holder z t) 0 + 2 ^ placeOf z words t) 0 e) (s .at k)
+    go k l (no e) = rw (getD-set-other seen (holder z t) k (getD seen (holder z t) 0 + 2 ^ placeOf z words t) 0 e) (s .at k l)
 
 -- ── triangle after triangle ──
 

@@ -64,9 +64,9 @@ fresh z words seen t =
 unfoldable pub noted : Sizes → List ℕ → List ℕ → Tri → List ℕ
 noted z words seen t = set seen (holder z t) (getD seen (holder z t) 0 + 2 ^ placeOf z words t)
 
--- the bits are those of 12 places
-pub record Small (seen : List ℕ) : Type 0 where
-  pub at : (k : ℕ) → getD seen k 0 < 4096
+-- the bits of each of the first n are those of 12 places
+pub record Small (n : ℕ) (seen : List ℕ) : Type 0 where
+  pub at : (k : ℕ) → k < n → getD seen k 0 < 4096
 
 -- the bits after the first i triangles
 unfoldable pub seenAfter : Sizes → List ℕ → List ℤ → List ℕ → List ℕ → ℕ → List ℕ

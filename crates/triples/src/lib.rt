@@ -147,7 +147,7 @@ fn power(c: usize) -> u32
 // Whether t is a triangle of its cube whose bit is 0; if so, the bit becomes 1.
 fn note(sizes: Sizes, words: &[u16], steps: &[usize; 36], seen: &mut [u32], t: Triangle) -> bool
     requires { ⌜ Sized sizes × (now steps ≡ tetSteps sizes) × Among (neededSlots sizes) (triOf t) ⌝ }
-    requires { ⌜ (cubes sizes ≤ length (now words)) × (cubes sizes ≤ length (now seen)) × Small (now seen) ⌝ }
+    requires { ⌜ (cubes sizes ≤ length (now words)) × (cubes sizes ≤ length (now seen)) × Small (cubes sizes) (now seen) ⌝ }
     ensures { λ r. ⌜ (r ≡ fresh sizes (now (words .entry)) (now (seen .entry)) (triOf t)) × (now (seen .exit) ≡ cond r (noted sizes (now (words .entry)) (now (seen .entry)) (triOf t)) (now (seen .entry))) ⌝ }
 {
     let k = holder_of(sizes, t);
@@ -187,7 +187,7 @@ fn triangle_at(bytes: &[u8], nv: usize, n: usize, i: usize) -> Triangle
 // The first triangle that is not one of its cube's, or whose bit an earlier one made 1, or T; the bits of those before it are 1.
 pub fn first_bad(sizes: Sizes, bytes: &[u8], words: &[u16], seen: &mut [u32]) -> usize
     requires { ⌜ Sized sizes × LaidOut (now bytes) × Named (neededSlots sizes) (fileVertices (now bytes)) (fileV (now bytes)) ⌝ }
-    requires { ⌜ (cubes sizes ≤ length (now words)) × (cubes sizes ≤ length (now seen)) × Small (now seen) ⌝ }
+    requires { ⌜ (cubes sizes ≤ length (now words)) × (cubes sizes ≤ length (now seen)) × Small (cubes sizes) (now seen) ⌝ }
     ensures { λ r. ⌜ (r ≡ firstBadIn sizes (now (words .entry)) (fileVertices (now (bytes .entry))) (fileTriangles (now (bytes .entry))) (now (seen .entry)) (fileT (now (bytes .entry)))) × (now (seen .exit) ≡ seenAfter sizes (now (words .entry)) (fileVertices (now (bytes .entry))) (fileTriangles (now (bytes .entry))) (now (seen .entry)) r) ⌝ }
 {
     let n = 7 * lattice::sample_count(sizes);

@@ -9,6 +9,7 @@ use lib.ListN.{length}
 use denote.Ref.{now}
 use borrow.Author.Count.{below-more}
 use borrow.Author.Tests.{not-true, not-false}
+use Rattle.paper.specs.Lattice.{cubes}
 use Rattle.paper.specs.Tables.{Tri}
 use Rattle.paper.specs.Build.{neededSlots}
 use Rattle.paper.specs.File.{fileV, fileT, fileVertices, fileTriangles}
@@ -21,7 +22,7 @@ use Rattle.triples.proofs.first_bad.Statement.{statement}
 use Rattle.triples.proofs.first_bad.Tie as tie
 
 abbrev Inv-loop : tie.InvT-loop
-Inv-loop sizes bytes words seen₀ n nv nt steps i₀ seen i = let vs = fileVertices bytes in let ts = fileTriangles bytes in (i ≤ nt) × (seen ≡ seenAfter sizes words vs ts seen₀ i) × ((k : ℕ) → k < i → badIn sizes words vs ts seen₀ k ≡ false) × Small seen
+Inv-loop sizes bytes words seen₀ n nv nt steps i₀ seen i = let vs = fileVertices bytes in let ts = fileTriangles bytes in (i ≤ nt) × (seen ≡ seenAfter sizes words vs ts seen₀ i) × ((k : ℕ) → k < i → badIn sizes words vs ts seen₀ k ≡ false) × Small (cubes sizes) seen
 
 abbrev μ-loop : tie.MeasureT-loop
 μ-loop sizes bytes words seen₀ n nv nt steps i₀ seen i = nt - i
@@ -100,7 +101,7 @@ loop-again c =
       omega arith,
       e ∙ ((λ j. noted z w (c .before .before .before .before .before .before .before .before .loop .inv .1 j) (c .before .before .before .before .before .before .triangle-at .ensures .0 j)) ∙ after-more z w (vs s) (ts s) (now (s .args .seen)) i),
       below-more _ _ (c .before .before .before .before .before .before .before .before .loop .inv .2) (good-here z w (vs s) (ts s) (now (s .args .seen)) i (sym (is (c .before .before .before)) ∙ b)),
-      subst Small (sym e) (noted-small z w (c .before .before .before .before .before .before .before .before .loop .seen) (triOf (c .before .before .before .before .before .before .triangle-at .result)) (omega (arith, long (c .before .before .before .before .before .before .before .before), s .pre .1 .1)) f (c .before .before .before .before .before .before .before .before .loop .inv .3)),
+      subst (Small (cubes z)) (sym e) (noted-small z w (c .before .before .before .before .before .before .before .before .loop .seen) (triOf (c .before .before .before .before .before .before .triangle-at .result)) (omega (arith, long (c .before .before .before .before .before .before .before .before), s .pre .1 .1)) f (c .before .before .before .before .before .before .before .before .loop .inv .3)),
     )
 
 same-length-2 : tie.Need-same-length-2 Inv-loop μ-loop

@@ -65,7 +65,7 @@ power-requires : tie.Need-power-requires
 power-requires c κs = found (c .before .before .before)
 
 add-seen : tie.Need-add-seen
-add-seen c = omega (arith, c .power .ensures .1, c .before .before .before .before .before .before .before .before .before .pre .1 .2 .at (c .before .before .before .before .before .before .holder-of .result))
+add-seen c = omega (arith, c .power .ensures .1, c .before .before .before .before .before .before .before .before .before .pre .1 .2 .at (c .before .before .before .before .before .before .holder-of .result) (below (c .before .before .before .before)))
 
 mul-seen : tie.Need-mul-seen
 mul-seen c = omega (arith, below (c .before .before .before .before), c .before .before .before .before .before .before .before .before .before .pre .1)
