@@ -55,12 +55,12 @@ turned-is {t} {u} (once e) =
     or-left (sameTriangle t u || sameTriangle (rot t) u) (sameTriangle (rot (rot t)) u) (or-right (sameTriangle t u) (sameTriangle (rot t) u) (triangle-same e))
 turned-is {t} {u} (twice e) = or-right (sameTriangle t u || sameTriangle (rot t) u) (sameTriangle (rot (rot t)) u) (triangle-same e)
 
-back : {t u : Tri} → Turned t u → Turned u t
+pub back : {t u : Tri} → Turned t u → Turned u t
 back (same e) = same (sym e)
 back (once e) = twice (ap (λ (s : Tri). rot (rot s)) (sym e))
 back (twice e) = once (ap rot (sym e))
 
-along : {t u v : Tri} → Turned t u → Turned u v → Turned t v
+pub along : {t u v : Tri} → Turned t u → Turned u v → Turned t v
 along (same e) (same f) = same (e ∙ f)
 along (same e) (once f) = once (ap rot e ∙ f)
 along (same e) (twice f) = twice (ap (λ (s : Tri). rot (rot s)) e ∙ f)
@@ -72,7 +72,7 @@ along (twice e) (once f) = same (ap rot e ∙ f)
 along (twice e) (twice f) = once (ap (λ (s : Tri). rot (rot s)) e ∙ f)
 
 -- how often a triangle has a directed edge
-abbrev hit : ℕ → ℕ → Tri → ℕ
+abbrev pub hit : ℕ → ℕ → Tri → ℕ
 hit m n t = count (isArrow m n) (around t)
 
 hit-rot : (m n : ℕ) (t : Tri) → hit m n t ≡ hit m n (rot t)
@@ -89,7 +89,7 @@ hit-rot m n t = go _ _ _ (isArrow m n (arrow (t .a) (t .b))) (isArrow m n (arrow
     go x y w false false true = refl
     go x y w false false false = refl
 
-hit-turned : (m n : ℕ) {t u : Tri} → Turned t u → hit m n t ≡ hit m n u
+pub hit-turned : (m n : ℕ) {t u : Tri} → Turned t u → hit m n t ≡ hit m n u
 hit-turned m n (same e) = ap (hit m n) e
 hit-turned m n {t} (once e) = hit-rot m n t ∙ ap (hit m n) e
 hit-turned m n {t} (twice e) = hit-rot m n t ∙ hit-rot m n (rot t) ∙ ap (hit m n) e

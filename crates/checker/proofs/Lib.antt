@@ -1,0 +1,6 @@
+-- Laws of a check.
+pub mod Answers
+pub mod Known
+pub mod Counting
+pub mod Complete
+pub mod Verdicts

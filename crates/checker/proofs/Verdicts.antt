@@ -1,0 +1,204 @@
+-- The answer of a check, and what it leaves, from the answers of its parts. Assumes nothing.
+use mathlib.Core.Path.{_≡_, refl, sym, ap, subst, _∙_}
+use mathlib.Core.Bool.{Bool, true, false, cond, _&&_}
+use mathlib.Core.List.{List, [], _∷_, _++_}
+use Prim.Native.Nat.{ℕ, _≤_, _<_}
+use native.Mathlib.Omega.{arith}
+use lib.Dec.{eqb}
+use lib.IntN.{ℤ}
+use lib.ListN.{length, drop}
+use borrow.Author.Tests.{eqb-true}
+use Rattle.lists.specs.Lists.{range, first, isIn, cleared}
+use Rattle.lists.proofs.Every.{All}
+use Rattle.paper.specs.declared.Sizes.{Sizes}
+use Rattle.paper.specs.declared.Start.{Start}
+use Rattle.paper.specs.declared.Verdict.{Verdict}
+use Rattle.paper.specs.Lattice.{Lattice, cubes}
+use Rattle.paper.specs.Sheet.{Sheet, sheetOf}
+use Rattle.paper.specs.Within.{Sized}
+use Rattle.paper.specs.Tests.{Test, verdict, judge}
+use Rattle.paper.specs.Build.{needed, neededSlots, startOf, sampleTests, workAfter}
+use Rattle.paper.specs.File.{fileV, fileT, fileSizes, fileVertices, fileTriangles, fileTests}
+use Rattle.paper.specs.Check.{Work, work, sameSizes, badRecord, badNaming, complete, sheetTests, checked}
+use Rattle.paper.proofs.Judged.{Numbered, numbered-both, judge-past, judge-stop}
+use Rattle.layout.proofs.Passing.{file-numbered}
+use Rattle.records.specs.Records.{firstBadIn as firstBadRecord}
+use Rattle.records.proofs.Firsts.{first-before}
+use Rattle.records.proofs.Meaning.{first-bad-is as bad-record-is}
+use Rattle.triples.specs.Triples.{firstBadIn as firstBadTriple}
+use Rattle.triples.proofs.Meaning.{first-bad-is as bad-triple-is}
+use Rattle.checker.specs.declared.Counts.{Counts}
+use Rattle.checker.specs.Checked.{Prepared, Roomy, foundTests, lastTests}
+use Rattle.checker.proofs.Known.{used-are, edges-below, words-are, waiting-blank, vertices-are, triangles-are, long}
+use Rattle.checker.proofs.Complete.{complete-is}
+
+-- ── tests 17 to 19 ──
+
+module _ (L : Lattice) (start : ℕ) (s : Sized (L .size)) (h : start < cubes (L .size)) (before : Work) (room : Roomy (L .size) before) (r : Counts)
+    (after : Work) (p : Prepared L start before r after) (bs : List ℕ) where
+  abbrev S : Sheet
+  S = sheetOf L start
+
+  abbrev vs : List ℤ
+  vs = fileVertices bs
+
+  abbrev ts : List ℕ
+  ts = fileTriangles bs
+
+  abbrev i : ℕ
+  i = first (badRecord L S vs) (fileV bs) (range 0 (fileV bs))
+
+  abbrev j : ℕ
+  j = first (badNaming S vs ts) (fileT bs) (range 0 (fileT bs))
+
+  record-is : firstBadRecord L vs (after .slots) (fileV bs) ≡ i
+  record-is =
+      bad-record-is L S vs (after .slots) (used-are L start s h before room r after p) (edges-below L start s h before room r after p)
+      (long L start s h before room r after p .slots) (fileV bs)
+
+  triple-is : firstBadTriple (L .size) (after .words) vs ts (after .waiting) (fileT bs) ≡ j
+  triple-is =
+      bad-triple-is L s start (after .words) (words-are L start s h before room r after p) vs ts (after .waiting)
+      (long L start s h before room r after p .waiting) (waiting-blank L start s h before room r after p) (fileT bs)
+
+  counted : i ≡ fileV bs → j ≡ fileT bs
+      → (eqb (fileV bs) (r .vertices) && eqb (fileT bs) (r .triangles)) ≡ complete S vs ts (fileV bs) (fileT bs)
+  counted e f =
+      (λ k. eqb (fileV bs) (vertices-are L start s h before room r after p k) && eqb (fileT bs) (triangles-are L start s h before room r after p k))
+      ∙ complete-is L s start h vs ts (fileT bs)
+      (λ k l. first-before (badNaming S vs ts) (fileT bs) k (subst (λ (n : ℕ). k < n) (sym f) l)) (fileV bs)
+      (λ k l. first-before (badRecord L S vs) (fileV bs) k (subst (λ (n : ℕ). k < n) (sym e) l))
+
+  -- what the work slices tell is what the sheet tells
+  pub same-answer : judge (foundTests L bs r after) ≡ judge (lastTests L start bs)
+  unfolding foundTests lastTests sheetTests
+  same-answer =
+      (λ k.
+      cond (eqb (record-is k) (fileV bs))
+      (cond (eqb (triple-is k) (fileT bs)) (cond (eqb (fileV bs) (r .vertices) && eqb (fileT bs) (r .triangles)) (verdict 0 0) (verdict 19 0)) (verdict 18 (triple-is k)))
+      (verdict 17 (record-is k)))
+      ∙ go (eqb i (fileV bs)) (eqb j (fileT bs)) refl refl
+    where
+      go : (a b : Bool) → eqb i (fileV bs) ≡ a → eqb j (fileT bs) ≡ b
+          → cond a (cond b (cond (eqb (fileV bs) (r .vertices) && eqb (fileT bs) (r .triangles)) (verdict 0 0) (verdict 19 0)) (verdict 18 j)) (verdict 17 i)
+          ≡ cond a (cond b (cond (complete S vs ts (fileV bs) (fileT bs)) (verdict 0 0) (verdict 19 0)) (verdict 18 j)) (verdict 17 i)
+      go true true e f = ap (λ (x : Bool). cond x (verdict 0 0) (verdict 19 0)) (counted (eqb-true i (fileV bs) e) (eqb-true j (fileT bs) f))
+      go true false e f = refl
+      go false b e f = refl
+
+-- ── tests one behind the other ──
+
+module _ (a b c : List Test) where
+  pub judge-first : (judge a .number ≡ 0 → ⊥) → judge (a ++ b ++ c) ≡ judge a
+  judge-first h =
+      let e = judge-stop a b h in
+      judge-stop (a ++ b) c (λ q. h (sym (ap (λ (v : Verdict). v .number) e) ∙ q)) ∙ e
+
+  pub judge-second : Numbered a → judge a .number ≡ 0 → (judge b .number ≡ 0 → ⊥) → judge (a ++ b ++ c) ≡ judge b
+  judge-second n z h =
+      let e = judge-past a b n z in
+      judge-stop (a ++ b) c (λ q. h (sym (ap (λ (v : Verdict). v .number) e) ∙ q)) ∙ e
+
+  pub judge-third : Numbered a → Numbered b → judge a .number ≡ 0 → judge b .number ≡ 0 → judge (a ++ b ++ c) ≡ judge c
+  judge-third n m z y =
+      let e = judge-past a b n z in
+      judge-past (a ++ b) c (numbered-both a b n m) (ap (λ (v : Verdict). v .number) e ∙ y)
+
+-- what holds of each test's number, and of 0, holds of the answer's
+judge-among : (P : ℕ → Type 0) (l : List Test) → All (λ t. P (t .otherwise .number)) l → (judge l .number ≡ 0 → P 0) → P (judge l .number)
+judge-among P [] h z = z refl
+judge-among P (t ∷ l) h z = go (t .passed) z (λ q. judge-among P l (h .1) q)
+  where
+    go : (b : Bool) → (cond b (judge l) (t .otherwise) .number ≡ 0 → P 0) → ((judge l .number ≡ 0 → P 0) → P (judge l .number)) → P (cond b (judge l) (t .otherwise) .number)
+    go true q r = r q
+    go false q r = h .0
+
+-- where no test has a place, neither has the answer
+judge-placeless : (l : List Test) → All (λ t. t .otherwise .place ≡ 0) l → judge l .place ≡ 0
+judge-placeless [] h = refl
+judge-placeless (t ∷ l) h = go (t .passed) (judge-placeless l (h .1))
+  where
+    go : (b : Bool) → judge l .place ≡ 0 → cond b (judge l) (t .otherwise) .place ≡ 0
+    go true e = e
+    go false e = h .0
+
+module _ (L : Lattice) (s : Start) (w q e : ℕ) where
+  pub sample-numbered : Numbered (sampleTests L s w q e)
+  unfolding sampleTests
+  sample-numbered = (omega arith, (omega arith, (omega arith, (omega arith, (omega arith, tt)))))
+
+  pub sample-answer : (n : ℕ) → n ≡ judge (sampleTests L s w q e) .number → verdict n 0 ≡ judge (sampleTests L s w q e)
+  unfolding sampleTests
+  sample-answer n f = λ k. verdict (f k) (sym (judge-placeless (sampleTests L s w q e) (refl, (refl, (refl, (refl, (refl, tt)))))) k)
+
+-- ── what is left ──
+
+-- the answers that clear the work slices
+abbrev pub clears : ℕ → Bool
+clears n = isIn (0 ∷ 6 ∷ 7 ∷ 17 ∷ 18 ∷ 19 ∷ []) n
+
+pub sample-keeps : (L : Lattice) (s : Start) (w q e : ℕ) → (judge (sampleTests L s w q e) .number ≡ 0 → ⊥) → clears (judge (sampleTests L s w q e) .number) ≡ false
+unfolding sampleTests
+sample-keeps L s w q e h =
+    judge-among (λ n. clears n ≡ false) (sampleTests L s w q e) (refl, (refl, (refl, (refl, (refl, tt))))) (λ z. absurd (h z))
+
+pub file-keeps : (bs : List ℕ) → (judge (fileTests bs) .number ≡ 0 → ⊥) → clears (judge (fileTests bs) .number) ≡ false
+unfolding fileTests
+file-keeps bs h = judge-among (λ n. clears n ≡ false) (fileTests bs) (refl, (refl, (refl, (refl, (refl, tt))))) (λ z. absurd (h z))
+
+pub last-clears : (L : Lattice) (start : ℕ) (bs : List ℕ) → clears (judge (lastTests L start bs) .number) ≡ true
+unfolding lastTests sheetTests
+last-clears L start bs = judge-among (λ n. clears n ≡ true) (lastTests L start bs) (refl, (refl, (refl, tt))) (λ z. refl)
+
+module _ (number n : ℕ) (old : List ℕ) where
+  work-kept : clears number ≡ false → old ≡ workAfter number n old
+  unfolding workAfter
+  work-kept e = sym (ap (λ (b : Bool). cond b (cleared n old) old) e)
+
+  work-cleared : clears number ≡ true → cleared n old ≡ workAfter number n old
+  unfolding workAfter
+  work-cleared e = sym (ap (λ (b : Bool). cond b (cleared n old) old) e)
+
+-- the three work slices after an answer
+abbrev pub leftAfter : Sizes → ℕ → Work → Work
+leftAfter z number w =
+    work (workAfter number (needed z) (w .words)) (workAfter number (needed z) (w .waiting)) (workAfter number (neededSlots z) (w .slots))
+
+pub all-kept : (z : Sizes) (number : ℕ) (w : Work) → clears number ≡ false → w ≡ leftAfter z number w
+all-kept z number w e =
+    λ k. work (work-kept number (needed z) (w .words) e k) (work-kept number (needed z) (w .waiting) e k) (work-kept number (neededSlots z) (w .slots) e k)
+
+pub all-cleared : (z : Sizes) (number : ℕ) (w : Work) → clears number ≡ true
+    → work (cleared (needed z) (w .words)) (cleared (needed z) (w .waiting)) (cleared (neededSlots z) (w .slots)) ≡ leftAfter z number w
+all-cleared z number w e =
+    λ k. work (work-cleared number (needed z) (w .words) e k) (work-cleared number (needed z) (w .waiting) e k) (work-cleared number (neededSlots z) (w .slots) e k)
+
+-- ── the whole ──
+
+module _ (L : Lattice) (s : Start) (bs : List ℕ) (w q e : ℕ) where
+  abbrev a : List Test
+  a = sampleTests L s w q e
+
+  abbrev c : List Test
+  c = sheetTests L (sheetOf L (startOf L s)) bs
+
+  pub checked-samples : (judge a .number ≡ 0 → ⊥) → checked L s bs w q e ≡ judge a
+  unfolding checked
+  checked-samples h = judge-first a (fileTests bs) c h
+
+  pub checked-file : judge a .number ≡ 0 → (judge (fileTests bs) .number ≡ 0 → ⊥) → checked L s bs w q e ≡ judge (fileTests bs)
+  unfolding checked
+  checked-file z h = judge-second a (fileTests bs) c (sample-numbered L s w q e) z h
+
+  checked-sheet : judge a .number ≡ 0 → judge (fileTests bs) .number ≡ 0 → checked L s bs w q e ≡ judge c
+  unfolding checked
+  checked-sheet z y = judge-third a (fileTests bs) c (sample-numbered L s w q e) (file-numbered bs) z y
+
+  pub checked-sizes : judge a .number ≡ 0 → judge (fileTests bs) .number ≡ 0 → sameSizes (fileSizes bs) (L .size) ≡ false → checked L s bs w q e ≡ verdict 16 0
+  unfolding sheetTests
+  checked-sizes z y f = checked-sheet z y ∙ ap (λ (b : Bool). cond b (judge (drop 1 c)) (verdict 16 0)) f
+
+  pub checked-last : judge a .number ≡ 0 → judge (fileTests bs) .number ≡ 0 → sameSizes (fileSizes bs) (L .size) ≡ true
+      → checked L s bs w q e ≡ judge (lastTests L (startOf L s) bs)
+  unfolding sheetTests lastTests
+  checked-last z y f = checked-sheet z y ∙ ap (λ (b : Bool). cond b (judge (drop 1 c)) (verdict 16 0)) f

@@ -1,0 +1,75 @@
+-- What the parts of a check leave and answer. Assumes nothing.
+use mathlib.Core.Path.{_≡_}
+use mathlib.Core.Bool.{Bool, _&&_}
+use mathlib.Core.List.{List, [], _∷_, _++_, map}
+use Prim.Native.Nat.{ℕ, _≤_}
+use lib.Dec.{eqb}
+use lib.ListN.{length, drop}
+use Rattle.lists.specs.Lists.{range, over, cleared}
+use Rattle.paper.specs.declared.Sizes.{Sizes}
+use Rattle.paper.specs.declared.Verdict.{Verdict}
+use Rattle.paper.specs.Lattice.{Lattice, cubes, visited}
+use Rattle.paper.specs.Within.{Full}
+use Rattle.paper.specs.Tests.{Test, test, testAt, judge}
+use Rattle.paper.specs.Sheet.{Sheet, sheetOf}
+use Rattle.paper.specs.Build.{needed, neededSlots}
+use Rattle.paper.specs.File.{fileV, fileT, fileVertices, fileTriangles}
+use Rattle.paper.specs.Check.{Work, work, sheetTests}
+use Rattle.flood.specs.Flooded.{wordsOf, Beyond}
+use Rattle.survey.specs.Marks.{marks, usedOf, numberIn, edgesUpto, trianglesUpto}
+use Rattle.layout.specs.Laid.{LaidOut}
+use Rattle.records.specs.Records.{Crossing, firstBadIn as firstBadRecord}
+use Rattle.triples.specs.Triples.{Small, firstBadIn as firstBadTriple}
+use Rattle.checker.specs.declared.Counts.{Counts}
+
+-- the slots of the side-changing edges of the cubes with words are 1, the other needed ones 0
+unfoldable pub marked : Lattice → List ℕ → List ℕ → List ℕ
+marked L words slots = marks (edgesUpto (L .size) words (cubes (L .size))) (cleared (neededSlots (L .size)) slots)
+
+-- the work slices where the sheet is known: the words of the visited cubes, an empty list, and numbered slots
+pub record Prepared (L : Lattice) (start : ℕ) (before : Work) (r : Counts) (after : Work) : Type 0 where
+  pub words : after .words ≡ over (wordsOf L (visited L start)) (before .words)
+  pub waiting : after .waiting ≡ cleared (needed (L .size)) (before .waiting)
+  pub slots :
+      after .slots
+      ≡ map (numberIn (marked L (after .words) (before .slots))) (range 0 (neededSlots (L .size)))
+      ++ drop (neededSlots (L .size)) (marked L (after .words) (before .slots))
+  pub vertices : r .vertices ≡ length (usedOf (marked L (after .words) (before .slots)) (neededSlots (L .size)))
+  pub triangles : r .triangles ≡ length (trianglesUpto (L .size) (after .words) (cubes (L .size)))
+
+-- tests 17 to 19, by the work slices and the sheet's counts
+unfoldable pub foundTests : Lattice → List ℕ → Counts → Work → List Test
+foundTests L bs n w =
+    let nv = fileV bs in
+    let nt = fileT bs in
+    let vs = fileVertices bs in
+    let i = firstBadRecord L vs (w .slots) nv in
+    let j = firstBadTriple (L .size) (w .words) vs (fileTriangles bs) (w .waiting) nt in
+    testAt 17 i (eqb i nv) ∷ testAt 18 j (eqb j nt) ∷ test 19 (eqb nv (n .vertices) && eqb nt (n .triangles)) ∷ []
+
+-- what comparing answers, and that it leaves the rest of the two slices that it writes
+pub record Compared (L : Lattice) (bs : List ℕ) (n : Counts) (before : Work) (r : Verdict) (after : Work) : Type 0 where
+  pub answer : r ≡ judge (foundTests L bs n before)
+  pub waiting : Beyond (needed (L .size)) (before .waiting) (after .waiting)
+  pub slots : Beyond (neededSlots (L .size)) (before .slots) (after .slots)
+
+-- the work slices are long enough
+pub record Roomy (z : Sizes) (w : Work) : Type 0 where
+  pub words : needed z ≤ length (w .words)
+  pub waiting : needed z ≤ length (w .waiting)
+  pub slots : neededSlots z ≤ length (w .slots)
+
+-- the front of each work slice is 0
+abbrev pub clean : Sizes → Work → Work
+clean z w = work (cleared (needed z) (w .words)) (cleared (needed z) (w .waiting)) (cleared (neededSlots z) (w .slots))
+
+-- what is asked for comparing: a lattice, a file and work slices as a sheet's preparation leaves them
+pub record Comparable (L : Lattice) (bs : List ℕ) (w : Work) : Type 0 where
+  pub full : Full L
+  pub laid : LaidOut bs
+  pub crossing : Crossing L (w .slots)
+  pub small : Small (cubes (L .size)) (w .waiting)
+
+-- tests 17 to 19
+unfoldable pub lastTests : Lattice → ℕ → List ℕ → List Test
+lastTests L start bs = drop 1 (sheetTests L (sheetOf L start) bs)

@@ -1,0 +1,171 @@
+// The checker: a sheet file against its samples and a start.
+use paper::Sizes;
+use paper::Start;
+use paper::Verdict;
+ghost use mathlib.Core.Path.{_≡_};
+ghost use Prim.Native.Nat.{_<_};
+ghost use Rattle.paper.specs.Lattice.{lattice, cubes};
+ghost use Rattle.paper.specs.Within.{Sized, Full};
+ghost use Rattle.paper.specs.Tests.{judge};
+ghost use Rattle.paper.specs.Check.{sameSizes, work, Checks};
+ghost use Rattle.layout.specs.Laid.{LaidOut};
+ghost use Rattle.checker.specs.Checked.{Prepared, Compared, Comparable, Roomy, clean, lastTests};
+
+// How many vertices and triangles the sheet has.
+pub struct Counts {
+    pub vertices: usize,
+    pub triangles: usize,
+}
+
+fn same_sizes(a: Sizes, b: Sizes) -> bool
+    ensures { λ r. ⌜ r ≡ sameSizes a b ⌝ }
+{
+    if a.nx != b.nx {
+        return false;
+    }
+    if a.ny != b.ny {
+        return false;
+    }
+    a.nz == b.nz
+}
+
+// The words of the visited cubes, an empty waiting list, and numbers in the slots of the vertices.
+fn prepare(
+    samples: &[i16],
+    sizes: Sizes,
+    start: usize,
+    words: &mut [u16],
+    waiting: &mut [u32],
+    slots: &mut [u32],
+) -> Counts
+    requires { ⌜ Full (lattice sizes (now samples)) × (start < cubes sizes) × Roomy sizes (work (now words) (now waiting) (now slots)) ⌝ }
+    ensures { λ r. ⌜ Prepared (lattice sizes (now (samples .entry))) start (work (now (words .entry)) (now (waiting .entry)) (now (slots .entry))) r (work (now (words .exit)) (now (waiting .exit)) (now (slots .exit))) ⌝ }
+{
+    let n = 7 * lattice::sample_count(sizes);
+    let _visits = flood::flood(samples, sizes, start, words, waiting);
+    flood::clear_list(waiting, lattice::cube_count(sizes));
+    flood::clear_list(slots, n);
+    let triangles = survey::mark_all(words, sizes, slots);
+    let vertices = survey::number_all(slots, n);
+    Counts {
+        vertices,
+        triangles,
+    }
+}
+
+// Tests 17 to 19 on prepared work slices.
+fn compare(
+    samples: &[i16],
+    sizes: Sizes,
+    bytes: &[u8],
+    counts: Counts,
+    words: &[u16],
+    waiting: &mut [u32],
+    slots: &mut [u32],
+) -> Verdict
+    requires { ⌜ Comparable (lattice sizes (now samples)) (now bytes) (work (now words) (now waiting) (now slots)) × Roomy sizes (work (now words) (now waiting) (now slots)) ⌝ }
+    ensures { λ r. ⌜ Compared (lattice sizes (now (samples .entry))) (now (bytes .entry)) counts (work (now (words .entry)) (now (waiting .entry)) (now (slots .entry))) r (work (now (words .entry)) (now (waiting .exit)) (now (slots .exit))) ⌝ }
+{
+    let nv = layout::vertex_count(bytes);
+    let nt = layout::triangle_count(bytes);
+    let i = records::first_bad(samples, sizes, bytes, slots);
+    if i != nv {
+        return Verdict {
+            number: 17,
+            place: i,
+        };
+    }
+    let j = triples::first_bad(sizes, bytes, words, waiting);
+    if j != nt {
+        return Verdict {
+            number: 18,
+            place: j,
+        };
+    }
+    if nv != counts.vertices {
+        return Verdict {
+            number: 19,
+            place: 0,
+        };
+    }
+    if nt != counts.triangles {
+        return Verdict {
+            number: 19,
+            place: 0,
+        };
+    }
+    Verdict {
+        number: 0,
+        place: 0,
+    }
+}
+
+// The needed front of each work slice becomes 0.
+fn clear(sizes: Sizes, words: &mut [u16], waiting: &mut [u32], slots: &mut [u32])
+    requires { ⌜ Sized sizes × Roomy sizes (work (now words) (now waiting) (now slots)) ⌝ }
+    ensures { λ _. ⌜ work (now (words .exit)) (now (waiting .exit)) (now (slots .exit)) ≡ clean sizes (work (now (words .entry)) (now (waiting .entry)) (now (slots .entry))) ⌝ }
+{
+    let n = lattice::cube_count(sizes);
+    flood::clear_words(words, n);
+    flood::clear_list(waiting, n);
+    flood::clear_list(slots, 7 * lattice::sample_count(sizes));
+}
+
+// Tests 17 to 19 on work slices that are then cleared.
+fn last_tests(
+    samples: &[i16],
+    sizes: Sizes,
+    start: usize,
+    bytes: &[u8],
+    words: &mut [u16],
+    waiting: &mut [u32],
+    slots: &mut [u32],
+) -> Verdict
+    requires { ⌜ Full (lattice sizes (now samples)) × (start < cubes sizes) × LaidOut (now bytes) × Roomy sizes (work (now words) (now waiting) (now slots)) ⌝ }
+    ensures { λ r. ⌜ (r ≡ judge (lastTests (lattice sizes (now (samples .entry))) start (now (bytes .entry)))) × (work (now (words .exit)) (now (waiting .exit)) (now (slots .exit)) ≡ clean sizes (work (now (words .entry)) (now (waiting .entry)) (now (slots .entry)))) ⌝ }
+{
+    let counts = prepare(samples, sizes, start, words, waiting, slots);
+    let v = compare(samples, sizes, bytes, counts, words, waiting, slots);
+    clear(sizes, words, waiting, slots);
+    v
+}
+
+// A sheet file against its samples and a start.
+pub fn check(
+    samples: &[i16],
+    sizes: Sizes,
+    start: Start,
+    bytes: &[u8],
+    words: &mut [u16],
+    waiting: &mut [u32],
+    slots: &mut [u32],
+) -> Verdict
+    ensures { λ r. ⌜ Checks (lattice sizes (now (samples .entry))) start (now (bytes .entry)) (work (now (words .entry)) (now (waiting .entry)) (now (slots .entry))) r (work (now (words .exit)) (now (waiting .exit)) (now (slots .exit))) ⌝ }
+{
+    let ready = ready::begin(
+        samples,
+        sizes,
+        start,
+        words.len(),
+        waiting.len(),
+        slots.len(),
+    );
+    if ready.number != 0 {
+        return Verdict {
+            number: ready.number,
+            place: 0,
+        };
+    }
+    let file = layout::tested(bytes);
+    if file.number != 0 {
+        return file;
+    }
+    let same = same_sizes(layout::sizes_of(bytes), sizes);
+    if !same {
+        return Verdict {
+            number: 16,
+            place: 0,
+        };
+    }
+    last_tests(samples, sizes, ready.cube, bytes, words, waiting, slots)
+}

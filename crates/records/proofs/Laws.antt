@@ -1,0 +1,153 @@
+-- One record after the other: its edge, and the slots once it is found. Assumes nothing.
+use mathlib.Core.Path.{_≡_, refl, sym, ap, subst, _∙_}
+use mathlib.Core.Bool.{Bool, true, false, cond, not, _&&_, _||_, and-false}
+use mathlib.Core.List.{List, [], _∷_, _++_, map}
+use Prim.Native.Nat.{ℕ, _+_, _*_, _/_, _%_, _≤_, _<_}
+use native.Mathlib.Numerals.{add-one}
+use native.Mathlib.Omega.{arith}
+use native.Mathlib.Decide.{ℕ-discrete}
+use lib.IntN.{ℤ}
+use lib.Dec.{T, eqb, ltb}
+use lib.ListN.{length, getD, set, length-set}
+use lib.Seq.{getD-set-same, getD-set-other}
+use borrow.Author.Tests.{eq-eqb, ne-eqb, lt-ltb, le-ltb, ltb-true}
+use Rattle.lists.specs.Lists.{range, isIn, first}
+use Rattle.lists.proofs.Member.{T→eq, eq→T, and-left, and-right}
+use Rattle.lists.proofs.Runs.{along-snoc, first-at, first-none}
+use Rattle.paper.specs.Lattice.{Lattice}
+use Rattle.paper.specs.Sheet.{vertexRecord}
+use Rattle.paper.specs.Build.{neededSlots}
+use Rattle.paper.specs.Check.{sameNumbers, recordOf}
+use Rattle.survey.specs.Marks.{used}
+use Rattle.records.specs.Records.{Crossing, edgeAt, goodRecord, goodEdge, emptied, edgesTo, slotsAfter, badIn, firstBadIn}
+
+-- ── one record ──
+
+module _ (L : Lattice) (vs : List ℤ) (slots : List ℕ) (i : ℕ) where
+  abbrev n : ℕ
+  n = neededSlots (L .size)
+
+  abbrev e : ℕ
+  e = edgeAt L vs i
+
+  abbrev same : Bool
+  same = sameNumbers (recordOf vs i) (vertexRecord L e)
+
+  pub edge-out : e ≡ n → n ≡ goodEdge L vs slots i
+  unfolding goodEdge goodRecord
+  edge-out q = rw (le-ltb e n (omega arith))
+
+  pub edge-idle : getD slots e 0 ≡ 0 → n ≡ goodEdge L vs slots i
+  unfolding goodEdge goodRecord used
+  edge-idle q = rw (eq-eqb (getD slots e 0) 0 q, and-false)
+
+  pub edge-wrong : same ≡ false → n ≡ goodEdge L vs slots i
+  unfolding goodEdge goodRecord
+  edge-wrong q = rw (q, and-false)
+
+  pub edge-right : e < n → (getD slots e 0 ≡ 0 → ⊥) → same ≡ true → e ≡ goodEdge L vs slots i
+  unfolding goodEdge goodRecord used
+  edge-right h u q = rw (lt-ltb e n h, ne-eqb (getD slots e 0) 0 u, q)
+
+  -- what the edge tells
+  good-below : T (goodRecord L vs slots i) → e < n
+  unfolding goodRecord
+  good-below t = ltb-true e n (T→eq (ltb e n) (and-left (ltb e n) (used slots e) (and-left (ltb e n && used slots e) same t)))
+
+  pub record-bad : goodEdge L vs slots i ≡ n → goodRecord L vs slots i ≡ false
+  unfolding goodEdge
+  record-bad q = go (goodRecord L vs slots i) refl q
+    where
+      go : (b : Bool) → goodRecord L vs slots i ≡ b → cond b e n ≡ n → b ≡ false
+      go true g q = absurd (omega (arith, good-below (eq→T g)))
+      go false g q = refl
+
+  pub record Found : Type 0 where
+    pub good : goodRecord L vs slots i ≡ true
+    pub is : goodEdge L vs slots i ≡ e
+    pub below : goodEdge L vs slots i < n
+
+  pub record-good : (goodEdge L vs slots i ≡ n → ⊥) → Found
+  unfolding goodEdge
+  record-good q = go (goodRecord L vs slots i) refl
+    where
+      go : (b : Bool) → goodRecord L vs slots i ≡ b → Found
+      go true g = record {
+        good = g;
+        is = ap (λ (b : Bool). cond b e n) g;
+        below = subst (λ (k : ℕ). k < n) (sym (ap (λ (b : Bool). cond b e n) g)) (good-below (eq→T g));
+      }
+      go false g = absurd (q (ap (λ (b : Bool). cond b e n) g))
+
+-- ── slots that become 0 ──
+
+emptied-snoc : (es l : List ℕ) (e : ℕ) → emptied (es ++ e ∷ []) l ≡ set (emptied es l) e 0
+emptied-snoc [] l e = refl
+emptied-snoc (x ∷ es) l e = emptied-snoc es (set l x 0) e
+
+emptied-length : (es l : List ℕ) → length (emptied es l) ≡ length l
+emptied-length [] l = refl
+emptied-length (e ∷ es) l = emptied-length es (set l e 0) ∙ length-set l e 0
+
+set-used : (l : List ℕ) (e k : ℕ) → k < length l → used (set l e 0) k ≡ (not (eqb k e) && used l k)
+unfolding used
+set-used l e k h = go (ℕ-discrete k e)
+  where
+    go : Dec (k ≡ e) → not (eqb (getD (set l e 0) k 0) 0) ≡ (not (eqb k e) && not (eqb (getD l k 0) 0))
+    go (yes q) =
+        rw (eq-eqb k e q)
+        (ap (λ (j : ℕ). not (eqb (getD (set l e 0) j 0) 0)) q ∙ ap (λ (v : ℕ). not (eqb v 0)) (getD-set-same l e 0 0 (subst (λ (j : ℕ). j < length l) q h)))
+    go (no q) = rw (ne-eqb k e q) (ap (λ (v : ℕ). not (eqb v 0)) (getD-set-other l e k 0 0 q))
+
+-- a slot is used where it was and is not of the list
+pub emptied-used : (es l : List ℕ) (k : ℕ) → k < length l → used (emptied es l) k ≡ (not (isIn es k) && used l k)
+emptied-used [] l k h = refl
+emptied-used (e ∷ es) l k h =
+    emptied-used es (set l e 0) k (omega (arith, length-set l e 0))
+    ∙ (ap (λ (b : Bool). not (isIn es k) && b) (set-used l e k h) ∙ join (eqb k e) (isIn es k) (used l k))
+  where
+    join : (a b c : Bool) → (not b && (not a && c)) ≡ (not (a || b) && c)
+    join true b c = and-false (not b)
+    join false b c = refl
+
+-- ── record after record ──
+
+module _ (L : Lattice) (vs : List ℤ) (slots : List ℕ) where
+  pub after-none : slots ≡ slotsAfter L vs slots 0
+  unfolding slotsAfter edgesTo
+  after-none = refl
+
+  pub after-more : (i : ℕ) → set (slotsAfter L vs slots i) (edgeAt L vs i) 0 ≡ slotsAfter L vs slots (i + 1)
+  unfolding slotsAfter edgesTo
+  after-more i =
+      sym (ap (λ (n : ℕ). emptied (map (edgeAt L vs) (range 0 n)) slots) (add-one i)
+      ∙ (ap (λ (es : List ℕ). emptied es slots) (along-snoc (edgeAt L vs) i) ∙ emptied-snoc (map (edgeAt L vs) (range 0 i)) slots (edgeAt L vs i)))
+
+  pub after-length : (i : ℕ) → length (slotsAfter L vs slots i) ≡ length slots
+  unfolding slotsAfter
+  after-length i = emptied-length (edgesTo L vs i) slots
+
+  pub after-crossing : (i : ℕ) → neededSlots (L .size) ≤ length slots → Crossing L slots → Crossing L (slotsAfter L vs slots i)
+  unfolding slotsAfter
+  after-crossing i h c = record {
+    at = λ e l t.
+        c .at e l
+        (and-right (not (isIn (edgesTo L vs i) e)) (used slots e) (subst T (emptied-used (edgesTo L vs i) slots e (omega arith)) t));
+  }
+
+  pub bad-here : (i : ℕ) → goodRecord L vs (slotsAfter L vs slots i) i ≡ false → badIn L vs slots i ≡ true
+  unfolding badIn
+  bad-here i q = ap not q
+
+  pub good-here : (i : ℕ) → goodRecord L vs (slotsAfter L vs slots i) i ≡ true → badIn L vs slots i ≡ false
+  unfolding badIn
+  good-here i q = ap not q
+
+  pub first-found : (nv i : ℕ) → i < nv → ((k : ℕ) → k < i → badIn L vs slots k ≡ false) → badIn L vs slots i ≡ true
+      → i ≡ firstBadIn L vs slots nv
+  unfolding firstBadIn
+  first-found nv i h good bad = sym (first-at (badIn L vs slots) nv 0 nv i (omega arith) (omega arith) (λ k g l. good k l) bad)
+
+  pub first-missing : (nv : ℕ) → ((k : ℕ) → k < nv → badIn L vs slots k ≡ false) → nv ≡ firstBadIn L vs slots nv
+  unfolding firstBadIn
+  first-missing nv good = sym (first-none (badIn L vs slots) nv 0 nv (λ k g l. good k (omega arith)))

@@ -1,0 +1,5 @@
+-- Laws of the records.
+pub mod Numbers
+pub mod Laws
+pub mod Firsts
+pub mod Meaning

@@ -1,0 +1,183 @@
+-- A record that fails here is one that fails test 17. Assumes nothing.
+use mathlib.Core.Path.{_≡_, refl, sym, ap, subst, _∙_}
+use mathlib.Core.Logic.{inl, inr}
+use mathlib.Core.Bool.{Bool, true, false, cond, not, _&&_, _||_}
+use mathlib.Core.List.{List, map}
+use Prim.Native.Nat.{ℕ, zero, suc, _+_, _*_, _/_, _%_, _≤_, _<_}
+use native.Mathlib.Omega.{arith}
+use lib.IntN.{ℤ, pos, negsuc, natAbs}
+use lib.Dec.{T, eqb, ltb, eqb→eq, eqb-refl, T-not, not-T}
+use lib.ListN.{length, getD, drop, set}
+use lib.Seq.{getD-take, getD-drop, drop-set-lt}
+use borrow.Author.Tests.{lt-ltb, ltb-true, not-false, eqb-false}
+use lib.Arith.{lt-of-le-ne}
+use Rattle.lists.specs.Lists.{range, any, isIn, first}
+use Rattle.lists.proofs.Member.{T→eq, eq→T, or-cases, or-left, or-right, and-both, and-left, and-right, and3, both3, any-in, in-any, in-range, range-in}
+use Rattle.lists.proofs.Every.{All, all-in}
+use Rattle.lists.proofs.Closure.{bool-same}
+use Rattle.paper.specs.declared.Place.{Place}
+use Rattle.paper.specs.Lattice.{Lattice, sampleAt, airAt, corner}
+use Rattle.paper.specs.Tables.{ends, kinds}
+use Rattle.paper.specs.Sheet.{Sheet, recordAt, vertexRecord}
+use Rattle.paper.specs.Build.{neededSlots}
+use Rattle.paper.specs.Check.{sameNumber, sameNumbers, recordOf, edgeOf, badRecord}
+use Rattle.survey.specs.Marks.{used}
+use Rattle.records.specs.Records.{edgeIn, edgeAt, goodRecord, emptied, edgesTo, slotsAfter, badIn, firstBadIn}
+use Rattle.records.proofs.Numbers.{same-number, number-same, same-numbers}
+use Rattle.records.proofs.Firsts.{first-before}
+use Rattle.records.proofs.Laws.{emptied-used}
+
+-- a vertex record begins with its edge
+pub first-number : (L : Lattice) (e : ℕ) → getD (vertexRecord L e) 0 (pos 0) ≡ pos e
+unfolding vertexRecord recordAt
+first-number L e =
+    let anchor = sampleAt (L .size) (e / 7) in
+    let k = getD kinds (e % 7) (ends 0 0) in
+    go (airAt L (corner anchor (k .a))) (corner anchor (k .a)) (corner anchor (k .b))
+  where
+    go : (b : Bool) (u v : Place) → getD (cond b (recordAt L e v u) (recordAt L e u v)) 0 (pos 0) ≡ pos e
+    go true u v = refl
+    go false u v = refl
+
+pub record-edge : (L : Lattice) (vs : List ℤ) (i e : ℕ) → T (sameNumbers (recordOf vs i) (vertexRecord L e)) → edgeOf vs i ≡ pos e
+unfolding recordOf edgeOf
+record-edge L vs i e t =
+    ap (λ (n : ℕ). getD vs n (pos 0)) (omega arith)
+    ∙ (sym (getD-take 4 (drop (4 * i) vs) 0 (pos 0) (omega arith) ∙ getD-drop (4 * i) vs 0 (pos 0))
+    ∙ (ap (λ (l : List ℤ). getD l 0 (pos 0)) (same-numbers (recordOf vs i) (vertexRecord L e) t) ∙ first-number L e))
+
+-- an edge among n
+pub edge-in : (e n : ℕ) → e < n → edgeIn (pos e) n ≡ e
+edge-in e n h = ap (λ (b : Bool). cond b e n) (lt-ltb e n h)
+
+pub in-edge : (z : ℤ) (e n : ℕ) → edgeIn z n ≡ e → e < n → z ≡ pos e
+in-edge (pos m) e n q h = go (ltb m n) q
+  where
+    go : (b : Bool) → cond b m n ≡ e → pos m ≡ pos e
+    go true q = ap pos q
+    go false q = absurd (omega arith)
+in-edge (negsuc m) e n q h = absurd (omega arith)
+
+-- what is along a run
+pub in-along : (f : ℕ → ℕ) (i n k : ℕ) → T (isIn (map f (range i n)) k) → (j : ℕ) × (i ≤ j) × (j < i + n) × (f j ≡ k)
+in-along f i zero k t = absurd t
+in-along f i (suc n) k t =
+    elim (or-cases (eqb k (f i)) (isIn (map f (range (suc i) n)) k) t) [
+      | inl e ↦ (i, omega arith, omega arith, sym (eqb→eq k (f i) e))
+      | inr r ↦ (let w = in-along f (suc i) n k r in (w .0, omega (arith, w .1), omega (arith, w .2), w .3))
+    ]
+
+pub along-in : (f : ℕ → ℕ) (i n j : ℕ) → i ≤ j → j < i + n → T (isIn (map f (range i n)) (f j))
+along-in f i zero j h g = absurd (omega arith)
+along-in f i (suc n) j h g = go (eqb j i) refl (λ l. along-in f (suc i) n j l (omega arith))
+  where
+    go : (b : Bool) → eqb j i ≡ b → (suc i ≤ j → T (isIn (map f (range (suc i) n)) (f j))) → T (isIn (map f (range i (suc n))) (f j))
+    go true e r = or-left (eqb (f j) (f i)) (isIn (map f (range (suc i) n)) (f j)) (subst (λ (k : ℕ). T (eqb (f j) (f k))) (eqb→eq j i (eq→T e)) (eqb-refl (f j)))
+    go false e r = or-right (eqb (f j) (f i)) (isIn (map f (range (suc i) n)) (f j)) (r (lt-of-le-ne h (λ q. eqb-false j i e (sym q))))
+
+module _ (L : Lattice) (S : Sheet) (vs : List ℤ) (slots : List ℕ)
+    (used-are : (e : ℕ) → e < neededSlots (L .size) → used slots e ≡ isIn (S .edges) e)
+    (below : All (λ e. e < neededSlots (L .size)) (S .edges)) (long : neededSlots (L .size) ≤ length slots) where
+  abbrev n : ℕ
+  n = neededSlots (L .size)
+
+  -- the slot of an edge of the sheet is used until a record has the edge
+  slot-is : (i e : ℕ) → e < n → used (slotsAfter L vs slots i) e ≡ (not (isIn (edgesTo L vs i) e) && isIn (S .edges) e)
+  unfolding slotsAfter
+  slot-is i e h = emptied-used (edgesTo L vs i) slots e (omega arith) ∙ ap (λ (b : Bool). not (isIn (edgesTo L vs i) e) && b) (used-are e h)
+
+  module _ (i : ℕ) where
+    abbrev e : ℕ
+    e = edgeAt L vs i
+
+    abbrev found : Bool
+    found = any (λ e. sameNumbers (recordOf vs i) (vertexRecord L e)) (S .edges)
+
+    abbrev earlier : Bool
+    earlier = any (λ j. sameNumber (edgeOf vs j) (edgeOf vs i)) (range 0 i)
+
+    -- an earlier record with its edge has its slot
+    told : T earlier → T (isIn (edgesTo L vs i) e)
+    unfolding edgesTo edgeAt
+    told t =
+        let w = any-in (λ j. sameNumber (edgeOf vs j) (edgeOf vs i)) (range 0 i) t in
+        let r = range-in 0 i (w .0) (w .1 .0) in
+        subst (λ (k : ℕ). T (isIn (map (edgeAt L vs) (range 0 i)) k))
+        (ap (λ (z : ℤ). edgeIn z n) (same-number (edgeOf vs (w .0)) (edgeOf vs i) (w .1 .1)))
+        (along-in (edgeAt L vs) 0 i (w .0) (r .0) (r .1))
+
+    tells : e < n → edgeOf vs i ≡ pos e → T (isIn (edgesTo L vs i) e) → T earlier
+    unfolding edgesTo edgeAt
+    tells h q t =
+        let w = in-along (edgeAt L vs) 0 i e t in
+        in-any (λ j. sameNumber (edgeOf vs j) (edgeOf vs i)) (range 0 i) (w .0) (in-range 0 i (w .0) (w .1) (w .2))
+        (number-same (in-edge (edgeOf vs (w .0)) e n (w .3) h ∙ sym q))
+
+    at-edge : (k : ℕ) → edgeOf vs i ≡ pos k → k < n → e ≡ k
+    unfolding edgeAt
+    at-edge k q h = ap (λ (z : ℤ). edgeIn z n) q ∙ edge-in k n h
+
+    good-sound : T (goodRecord L vs (slotsAfter L vs slots i) i) → T (found && not earlier)
+    unfolding goodRecord
+    good-sound t =
+        let p = and3 (ltb e n) (used (slotsAfter L vs slots i) e) (sameNumbers (recordOf vs i) (vertexRecord L e)) t in
+        let h = ltb-true e n (T→eq (ltb e n) (p .0)) in
+        let u = subst T (slot-is i e h) (p .1) in
+        and-both found (not earlier)
+        (in-any (λ e. sameNumbers (recordOf vs i) (vertexRecord L e)) (S .edges) e (and-right (not (isIn (edgesTo L vs i) e)) (isIn (S .edges) e) u) (p .2))
+        (not-T earlier (λ a. T-not (isIn (edgesTo L vs i) e) (and-left (not (isIn (edgesTo L vs i) e)) (isIn (S .edges) e) u) (told a)))
+
+    good-full : T (found && not earlier) → T (goodRecord L vs (slotsAfter L vs slots i) i)
+    unfolding goodRecord
+    good-full t =
+        let w = any-in (λ e. sameNumbers (recordOf vs i) (vertexRecord L e)) (S .edges) (and-left found (not earlier) t) in
+        let k = w .0 in
+        let q = record-edge L vs i k (w .1 .1) in
+        let h : k < n = all-in (λ e. e < n) (S .edges) below k (w .1 .0) in
+        let m : e ≡ k = at-edge k q h in
+        let g : e < n = subst (λ (j : ℕ). j < n) (sym m) h in
+        both3 (ltb e n) (used (slotsAfter L vs slots i) e) (sameNumbers (recordOf vs i) (vertexRecord L e)) (eq→T (lt-ltb e n g))
+        (subst T (sym (slot-is i e g))
+        (and-both (not (isIn (edgesTo L vs i) e)) (isIn (S .edges) e)
+        (not-T (isIn (edgesTo L vs i) e) (λ a. T-not earlier (and-right found (not earlier) t) (tells g (q ∙ ap pos (sym m)) a)))
+        (subst (λ (j : ℕ). T (isIn (S .edges) j)) (sym m) (w .1 .0))))
+        (subst (λ (j : ℕ). T (sameNumbers (recordOf vs i) (vertexRecord L j))) (sym m) (w .1 .1))
+
+    pub bad-is : badIn L vs slots i ≡ badRecord L S vs i
+    unfolding badIn badRecord
+    bad-is = ap not (bool-same (goodRecord L vs (slotsAfter L vs slots i) i) (found && not earlier) good-sound good-full) ∙ swap found earlier
+      where
+        swap : (a b : Bool) → not (a && not b) ≡ (not a || b)
+        swap true true = refl
+        swap true false = refl
+        swap false b = refl
+
+  -- so the first such is the one of test 17
+  pub first-bad-is : (nv : ℕ) → firstBadIn L vs slots nv ≡ first (badRecord L S vs) nv (range 0 nv)
+  unfolding firstBadIn
+  first-bad-is nv j = first (λ i. bad-is i j) nv (range 0 nv)
+
+-- ── before the first ──
+
+module _ (L : Lattice) (vs : List ℤ) (slots : List ℕ) (nv : ℕ) where
+  pub edge-below : (k : ℕ) → k < firstBadIn L vs slots nv → edgeAt L vs k < neededSlots (L .size)
+  unfolding firstBadIn badIn goodRecord
+  edge-below k h =
+      let e = edgeAt L vs k in
+      let n = neededSlots (L .size) in
+      let l = slotsAfter L vs slots k in
+      let p = and3 (ltb e n) (used l e) (sameNumbers (recordOf vs k) (vertexRecord L e)) (eq→T {b = goodRecord L vs l k} (not-false (goodRecord L vs l k) (first-before (badIn L vs slots) nv k h))) in
+      ltb-true e n (T→eq (ltb e n) (p .0))
+
+-- past the slots nothing changes
+rest-from : (n : ℕ) (f : ℕ → ℕ) (l : List ℕ) (i m : ℕ) → ((k : ℕ) → k < i + m → f k < n) → drop n (emptied (map f (range i m)) l) ≡ drop n l
+rest-from n f l i zero h = refl
+rest-from n f l i (suc m) h =
+    rest-from n f (set l (f i) 0) (suc i) m (λ k g. h k (omega arith)) ∙ drop-set-lt n l (f i) 0 (h i (omega arith))
+
+pub first-rest : (L : Lattice) (vs : List ℤ) (slots : List ℕ) (nv : ℕ)
+    → drop (neededSlots (L .size)) (slotsAfter L vs slots (firstBadIn L vs slots nv)) ≡ drop (neededSlots (L .size)) slots
+unfolding slotsAfter edgesTo
+first-rest L vs slots nv =
+    rest-from (neededSlots (L .size)) (edgeAt L vs) slots 0 (firstBadIn L vs slots nv)
+    (λ k h. edge-below L vs slots nv k (omega arith))

@@ -1,0 +1,134 @@
+-- Each record before i is good, and the slots of their edges are 0. Assumes nothing.
+use mathlib.Core.Path.{_≡_, refl, sym, ap, subst, _∙_}
+use mathlib.Core.Bool.{Bool, true, false}
+use mathlib.Core.List.{List}
+use Prim.Native.Nat.{ℕ, _+_, _-_, _*_, _≤_, _<_}
+use native.Mathlib.Omega.{arith}
+use lib.IntN.{ℤ}
+use lib.ListN.{length, set}
+use denote.Ref.{now}
+use borrow.Author.Count.{below-more}
+use borrow.Author.Needs.{needs}
+use Rattle.paper.specs.Lattice.{Lattice, lattice}
+use Rattle.paper.specs.Build.{neededSlots}
+use Rattle.paper.specs.File.{fileV, fileVertices}
+use Rattle.layout.specs.Laid.{Ranged}
+use Rattle.records.specs.Records.{Crossing, edgeAt, goodEdge, slotsAfter, badIn, firstBadIn}
+use Rattle.records.proofs.Laws.{Found, record-bad, record-good, after-none, after-more, after-length, after-crossing, bad-here, good-here, first-found, first-missing}
+use Rattle.records.proofs.first_bad.Statement.{statement}
+use Rattle.records.proofs.first_bad.Tie as tie
+
+abbrev Inv-loop : tie.InvT-loop
+Inv-loop samples sizes bytes slots₀ n nv i₀ slots i = let L = lattice sizes samples in let vs = fileVertices bytes in (i ≤ nv) × (slots ≡ slotsAfter L vs slots₀ i) × ((k : ℕ) → k < i → badIn L vs slots₀ k ≡ false)
+
+abbrev μ-loop : tie.MeasureT-loop
+μ-loop samples sizes bytes slots₀ n nv i₀ slots i = nv - i
+
+abbrev L : tie.Start Inv-loop μ-loop → Lattice
+L s = lattice (s .args .sizes) (now (s .args .samples))
+
+abbrev vs : tie.Start Inv-loop μ-loop → List ℤ
+vs s = fileVertices (now (s .args .bytes))
+
+long : (c : tie.At-loop Inv-loop μ-loop) → length (c .loop .slots) ≡ length (now (c .before .before .before .before .before .args .slots))
+long c = let s = c .before .before .before .before .before in ap length (c .loop .inv .1) ∙ after-length (L s) (vs s) (now (s .args .slots)) (c .loop .i)
+
+-- the code's edge is that of the record, with the slots as they are
+edge : (c : tie.After-good-edge Inv-loop μ-loop) → let s = c .before .before .before .before .before .before .before .before in let i = c .before .before .before .loop .i in
+    c .good-edge .result ≡ goodEdge (L s) (vs s) (slotsAfter (L s) (vs s) (now (s .args .slots)) i) i
+edge c =
+    let s = c .before .before .before .before .before .before .before .before in
+    let i = c .before .before .before .loop .i in
+    c .good-edge .ensures ∙ ap (λ (l : List ℕ). goodEdge (L s) (vs s) l i) (c .before .before .before .loop .inv .1)
+
+all : (c : tie.After-good-edge Inv-loop μ-loop) → 7 * c .before .before .before .before .before .sample-count .result ≡ neededSlots (c .before .before .before .before .before .before .before .before .args .sizes)
+all c = ap (λ (n : ℕ). 7 * n) (c .before .before .before .before .before .sample-count .ensures .0)
+
+found : (c : tie.Else1 Inv-loop μ-loop) → let s = c .before .before .before .before .before .before .before .before .before in let i = c .before .before .before .before .loop .i in
+    Found (L s) (vs s) (slotsAfter (L s) (vs s) (now (s .args .slots)) i) i
+found c =
+    let s = c .before .before .before .before .before .before .before .before .before in
+    let i = c .before .before .before .before .loop .i in
+    record-good (L s) (vs s) (slotsAfter (L s) (vs s) (now (s .args .slots)) i) i (λ q. c .if1 .left (edge (c .before) ∙ (q ∙ sym (all (c .before)))))
+
+below : (c : tie.Else1 Inv-loop μ-loop) → c .before .good-edge .result < neededSlots (c .before .before .before .before .before .before .before .before .before .args .sizes)
+below c = subst (λ (k : ℕ). k < neededSlots (c .before .before .before .before .before .before .before .before .before .args .sizes)) (sym (edge (c .before))) (found c .below)
+
+sample-count-requires : tie.Need-sample-count-requires Inv-loop μ-loop
+sample-count-requires c κs = c .before .before .pre .0 .0 .sized
+
+mul-n : tie.Need-mul-n Inv-loop μ-loop
+mul-n c = omega (arith, c .sample-count .ensures)
+
+vertex-count-requires : tie.Need-vertex-count-requires Inv-loop μ-loop
+vertex-count-requires c κs = omega (arith, c .before .before .before .pre .0 .1 .long)
+
+loop-holds : tie.Need-loop-holds Inv-loop μ-loop
+loop-holds c = (omega arith, after-none _ _ _, λ k h. absurd (omega arith))
+
+good-edge-requires : tie.Need-good-edge-requires Inv-loop μ-loop
+good-edge-requires c κs =
+    let s = c .before .before .before .before .before .before .before in
+    let v = c .before .before .before .vertex-count .ensures .0 in ((s .pre .0 .0, s .pre .0 .1, omega (arith, v, c .before .loop-test .taken)), (subst (Crossing (L s)) (sym (c .before .before .loop .inv .1)) (after-crossing (L s) (vs s) (now (s .args .slots)) (c .before .before .loop .i) (s .pre .1 .1) (s .pre .1 .0)), omega (arith, long (c .before .before), s .pre .1 .1)))
+
+same-length : tie.Need-same-length Inv-loop μ-loop
+same-length c = long (c .before .before .before .before)
+
+returns : tie.Need-returns Inv-loop μ-loop
+returns c =
+    let s = c .before .before .before .before .before .before .before .before .before in
+    let i = c .before .before .before .before .loop .i in
+    let l = slotsAfter (L s) (vs s) (now (s .args .slots)) i in
+    let v = c .before .before .before .before .before .vertex-count .ensures .0 in
+    let b = record-bad (L s) (vs s) l i (sym (edge (c .before)) ∙ (c .if1 .taken ∙ all (c .before))) in
+    (first-found (L s) (vs s) (now (s .args .slots)) (fileV (now (s .args .bytes))) i (omega (arith, v, c .before .before .before .loop-test .taken)) (c .before .before .before .before .loop .inv .2) (bad-here (L s) (vs s) (now (s .args .slots)) i b), c .before .before .before .before .loop .inv .1)
+
+mul-slots : tie.Need-mul-slots Inv-loop μ-loop
+mul-slots c = omega (arith, below (c), all (c .before), c .before .before .before .before .before .before .sample-count .ensures)
+
+slice-write-slots : tie.Need-slice-write-slots Inv-loop μ-loop
+slice-write-slots c = omega (arith, below (c), long (c .before .before .before .before), c .before .before .before .before .before .before .before .before .before .pre .1 .1)
+
+add-i : tie.Need-add-i Inv-loop μ-loop
+add-i c = omega arith
+
+loop-less : tie.Need-loop-less Inv-loop μ-loop
+loop-less c = omega arith
+
+loop-again : tie.Need-loop-again Inv-loop μ-loop
+loop-again c =
+    let s = c .before .before .before .before .before .before .before .before .before in
+    let i = c .before .before .before .before .loop .i in
+    let f = found (c) in
+    (omega arith, (λ j. set (c .before .before .before .before .loop .inv .1 j) ((edge (c .before) ∙ f .is) j) 0) ∙ after-more (L s) (vs s) (now (s .args .slots)) i, below-more _ _ (c .before .before .before .before .loop .inv .2) (good-here (L s) (vs s) (now (s .args .slots)) i (f .good)))
+
+same-length-2 : tie.Need-same-length-2 Inv-loop μ-loop
+same-length-2 c = long (c .before)
+
+returns-2 : tie.Need-returns-2 Inv-loop μ-loop
+returns-2 c =
+    let s = c .before .before .before .before .before .before in
+    let e : c .before .loop .i ≡ c .before .before .vertex-count .result = omega (arith, c .before .loop .inv .0, c .loop-test .left) in
+    let q = e ∙ c .before .before .vertex-count .ensures .0 in
+    (c .before .before .vertex-count .ensures .0 ∙ first-missing (L s) (vs s) (now (s .args .slots)) (fileV (now (s .args .bytes))) (λ k h. c .before .loop .inv .2 k (omega arith)), c .before .loop .inv .1 ∙ ap (slotsAfter (L s) (vs s) (now (s .args .slots))) e)
+
+pub first-bad-spec : {M : Type 1} → statement M
+first-bad-spec =
+    tie.close
+    (tie.spec
+    Inv-loop
+    μ-loop
+    sample-count-requires
+    mul-n
+    vertex-count-requires
+    loop-holds
+    good-edge-requires
+    same-length
+    returns
+    mul-slots
+    slice-write-slots
+    add-i
+    loop-less
+    loop-again
+    same-length-2
+    returns-2)

@@ -1,0 +1,206 @@
+-- One triangle after the other: its cube, its place there, and the bits. Assumes nothing.
+use mathlib.Core.Path.{_≡_, refl, sym, ap, subst, _∙_}
+use mathlib.Core.Bool.{Bool, true, false, cond, not, _&&_, and-false}
+use mathlib.Core.List.{List, []}
+use Prim.Native.Nat.{ℕ, zero, suc, _+_, _-_, _*_, _/_, _%_, _^_, min, _≤_, _<_}
+use native.Mathlib.Nat.{mul-le-mul, mul-comm, pow-suc, div-div-eq-div-mul}
+use native.Mathlib.Decide.{ℕ-discrete}
+use native.Mathlib.Numerals.{add-one}
+use native.Mathlib.Omega.{arith}
+use lib.IntN.{ℤ, pos, negsuc, natAbs}
+use lib.Dec.{T, eqb, ltb, eqb→eq, ltb→lt}
+use lib.ListN.{length, getD, set, length-set}
+use lib.Seq.{getD-set-same, getD-set-other}
+use borrow.Author.Tests.{eq-eqb, ne-eqb, lt-ltb, le-ltb, ltb-true, eqb-true}
+use Rattle.lists.specs.Lists.{range, first}
+use Rattle.lists.proofs.Member.{T→eq, eq→T}
+use Rattle.lists.proofs.Runs.{first-at, first-none}
+use Rattle.lists.proofs.Computed.{upto, upto-at}
+use Rattle.paper.specs.declared.Sizes.{Sizes}
+use Rattle.paper.specs.Lattice.{cubes}
+use Rattle.paper.specs.Tables.{Tri, tri}
+use Rattle.paper.specs.Within.{Sized}
+use Rattle.paper.specs.Check.{triangleOf}
+use Rattle.paper.proofs.Judged.{both}
+use Rattle.sides.specs.Pattern.{bitOf}
+use Rattle.survey.specs.Marks.{baseOf}
+use Rattle.records.specs.Records.{edgeIn}
+use Rattle.triples.specs.Triples.{holder, isAt, placeBy, placeIn, placeOf, fresh, noted, Small, seenAfter, badIn, firstBadIn}
+
+-- ── numbers ──
+
+pub power-fits : (c : ℕ) → c < 12 → (1 * 2 ^ c % 4294967296 ≡ 2 ^ c) × (2 ^ c ≤ 2048)
+power-fits c h =
+    let e = eqb→eq (1 * 2 ^ c % 4294967296) (2 ^ c) (upto-at 12 (λ c. eqb (1 * 2 ^ c % 4294967296) (2 ^ c)) tt c h) in
+    let l = ltb→lt (2 ^ c) 2049 (upto-at 12 (λ c. ltb (2 ^ c) 2049) tt c h) in
+    (e, omega arith)
+
+-- three numbers below 64 as digits of at most 63 stay small
+pub digits-small : (w h y z : ℕ) → w ≤ 63 → h ≤ 63 → y ≤ 63 → z ≤ 63 → (h * z ≤ 3969) × (w * (y + h * z) ≤ 254016)
+digits-small w h y z hw hh hy hz =
+    let a : h * z ≤ 63 * 63 = mul-le-mul hh hz in
+    let b : w * (y + h * z) ≤ 63 * 4032 = mul-le-mul {m₂ = 4032} hw (omega arith) in
+    (omega arith, omega arith)
+
+-- an edge that is among n is the record's
+pub named-is : (z : ℤ) (n : ℕ) → edgeIn z n < n → edgeIn z n ≡ natAbs z
+named-is (pos m) n h = go (ltb m n) h
+  where
+    go : (b : Bool) → cond b m n < n → cond b m n ≡ m
+    go true h = refl
+    go false h = absurd (omega arith)
+named-is (negsuc m) n h = absurd (omega arith)
+
+-- ── a place in a cube ──
+
+module _ (z : Sizes) (base m : ℕ) (t : Tri) where
+  pub place-found : (c : ℕ) → c < 12 → ((k : ℕ) → k < c → isAt z base m t k ≡ false) → isAt z base m t c ≡ true → c ≡ placeBy z base m t
+  unfolding placeBy
+  place-found c h before here = sym (first-at (isAt z base m t) 12 0 12 c (omega arith) (omega arith) (λ k g l. before k l) here)
+
+  pub place-missing : ((k : ℕ) → k < 12 → isAt z base m t k ≡ false) → 12 ≡ placeBy z base m t
+  unfolding placeBy
+  place-missing before = sym (first-none (isAt z base m t) 12 0 12 (λ k g l. before k (omega arith)))
+
+module _ (z : Sizes) (words : List ℕ) (k : ℕ) (t : Tri) where
+  pub place-out : cubes z ≤ k → 12 ≡ placeIn z words k t
+  unfolding placeIn
+  place-out h = rw (le-ltb k (cubes z) h)
+
+  pub place-idle : getD words k 0 ≡ 0 → 12 ≡ placeIn z words k t
+  unfolding placeIn
+  place-idle e = rw (eq-eqb (getD words k 0) 0 e, and-false)
+
+  pub place-word : k < cubes z → (getD words k 0 ≡ 0 → ⊥) → placeBy z (baseOf z k) (getD words k 0 % 256) t ≡ placeIn z words k t
+  unfolding placeIn
+  place-word h e = rw (lt-ltb k (cubes z) h, ne-eqb (getD words k 0) 0 e)
+
+  -- a place says that the cube is one of the lattice
+  pub place-cube : placeIn z words k t < 12 → k < cubes z
+  unfolding placeIn
+  place-cube h = go (ltb k (cubes z)) refl h
+    where
+      go : (b : Bool) → ltb k (cubes z) ≡ b → cond (b && not (eqb (getD words k 0) 0)) (placeBy z (baseOf z k) (getD words k 0 % 256) t) 12 < 12 → k < cubes z
+      go true e h = ltb-true k (cubes z) e
+      go false e h = absurd (omega arith)
+
+-- ── bits ──
+
+module _ (z : Sizes) (words seen : List ℕ) (t : Tri) where
+  abbrev c : ℕ
+  c = placeOf z words t
+
+  abbrev old : ℕ
+  old = getD seen (holder z t) 0
+
+  pub stale-place : c ≡ 12 → false ≡ fresh z words seen t
+  unfolding fresh
+  stale-place e = rw (le-ltb c 12 (omega arith))
+
+  pub stale-bit : (bitOf old c ≡ 0 → ⊥) → false ≡ fresh z words seen t
+  unfolding fresh
+  stale-bit e = rw (ne-eqb (bitOf old c) 0 e, and-false)
+
+  pub fresh-bit : c < 12 → bitOf old c ≡ 0 → true ≡ fresh z words seen t
+  unfolding fresh
+  fresh-bit h e = rw (lt-ltb c 12 h, eq-eqb (bitOf old c) 0 e)
+
+-- bit c of a number, by halving
+double : (c : ℕ) → 2 ^ suc c ≡ 2 * 2 ^ c
+double c = pow-suc 2 c ∙ mul-comm (2 ^ c) 2
+
+half : (m c : ℕ) → bitOf m (suc c) ≡ bitOf (m / 2) c
+unfolding bitOf
+half m c = ap (λ (q : ℕ). q % 2) (ap (λ (p : ℕ). m / p) (double c) ∙ sym (div-div-eq-div-mul m 2 (2 ^ c)))
+
+lowest : (m : ℕ) → bitOf m 0 ≡ m % 2
+unfolding bitOf
+lowest m = omega arith
+
+-- a bit that is 0 becomes 1, and the others stay
+pub bit-set : (c d m : ℕ) → bitOf m c ≡ 0 → bitOf (m + 2 ^ c) d ≡ cond (eqb d c) 1 (bitOf m d)
+bit-set zero zero m h = lowest (m + 2 ^ 0) ∙ omega (arith, lowest m)
+bit-set zero (suc d) m h =
+    rw (ne-eqb (suc d) 0 (λ e. omega arith))
+    (half (m + 2 ^ 0) d ∙ (ap (λ (q : ℕ). bitOf q d) (let e : (m + 1) / 2 ≡ m / 2 = omega (arith, lowest m) in e) ∙ sym (half m d)))
+bit-set (suc c) zero m h =
+    rw (ne-eqb 0 (suc c) (λ e. omega arith)) (lowest (m + 2 ^ suc c) ∙ (omega (arith, double c) ∙ sym (lowest m)))
+bit-set (suc c) (suc d) m h =
+    half (m + 2 ^ suc c) d
+    ∙ (ap (λ (q : ℕ). bitOf q d) (let e : (m + 2 ^ suc c) / 2 ≡ m / 2 + 2 ^ c = omega (arith, double c) in e)
+    ∙ (bit-set c d (m / 2) (sym (half m c) ∙ h) ∙ (λ i. cond (sym (same-suc d c) i) 1 (sym (half m d) i))))
+  where
+    same-suc : (d c : ℕ) → eqb (suc d) (suc c) ≡ eqb d c
+    same-suc d c = go (ℕ-discrete d c)
+      where
+        go : Dec (d ≡ c) → eqb (suc d) (suc c) ≡ eqb d c
+        go (yes e) = eq-eqb (suc d) (suc c) (ap suc e) ∙ sym (eq-eqb d c e)
+        go (no e) = ne-eqb (suc d) (suc c) (λ q. e (omega arith)) ∙ sym (ne-eqb d c e)
+
+-- and n bits stay n
+set-small : (n c m : ℕ) → c < n → m < 2 ^ n → bitOf m c ≡ 0 → m + 2 ^ c < 2 ^ n
+set-small zero c m h l e = absurd (omega arith)
+set-small (suc n) zero m h l e =
+    let g : m + 1 < 2 ^ suc n = omega (arith, double n, lowest m) in
+    g
+set-small (suc n) (suc c) m h l e =
+    let g = set-small n c (m / 2) (omega arith) (omega (arith, double n)) (sym (half m c) ∙ e) in
+    omega (arith, double n, double c)
+
+-- what a fresh triangle has
+pub record Fresh (z : Sizes) (words seen : List ℕ) (t : Tri) : Type 0 where
+  pub place : placeOf z words t < 12
+  pub cube : holder z t < cubes z
+  pub bit : bitOf (getD seen (holder z t) 0) (placeOf z words t) ≡ 0
+
+pub is-fresh : (z : Sizes) (words seen : List ℕ) (t : Tri) → fresh z words seen t ≡ true → Fresh z words seen t
+unfolding fresh placeOf
+is-fresh z words seen t e =
+    let c = placeOf z words t in
+    let p = both (ltb c 12) (eqb (bitOf (getD seen (holder z t) 0) c) 0) e in
+    let h : placeIn z words (holder z t) t < 12 = ltb-true c 12 (p .0) in
+    record { place = h; cube = place-cube z words (holder z t) t h; bit = eqb-true _ _ (p .1) }
+
+pub noted-small : (z : Sizes) (words seen : List ℕ) (t : Tri) → cubes z ≤ length seen → Fresh z words seen t → Small (cubes z) seen
+    → Small (cubes z) (noted z words seen t)
+unfolding noted
+noted-small z words seen t h f s = record { at = λ k l. go k l (ℕ-discrete k (holder z t)) }
+  where
+    go : (k : ℕ) → k < cubes z → Dec (k ≡ holder z t) → getD (set seen (holder z t) (getD seen (holder z t) 0 + 2 ^ placeOf z words t)) k 0 < 4096
+    go k l (yes e) =
+        let g = set-small 12 (placeOf z words t) (getD seen (holder z t) 0) (f .place) (s .at (holder z t) (f .cube)) (f .bit) in
+        rw (e, getD-set-same seen (holder z t) (getD seen (holder z t) 0 + 2 ^ placeOf z words t) 0 (omega (arith, f .cube))) g
+    go k l (no e) = rw (getD-set-other seen (holder z t) k (getD seen (holder z t) 0 + 2 ^ placeOf z words t) 0 e) (s .at k l)
+
+-- ── triangle after triangle ──
+
+module _ (z : Sizes) (words : List ℕ) (vs : List ℤ) (ts seen : List ℕ) where
+  pub after-none : seen ≡ seenAfter z words vs ts seen 0
+  unfolding seenAfter
+  after-none = refl
+
+  pub after-more : (i : ℕ) → noted z words (seenAfter z words vs ts seen i) (triangleOf vs ts i) ≡ seenAfter z words vs ts seen (i + 1)
+  unfolding seenAfter
+  after-more i = rw (add-one i)
+
+  pub after-length : (i : ℕ) → length (seenAfter z words vs ts seen i) ≡ length seen
+  unfolding seenAfter noted
+  after-length zero = refl
+  after-length (suc i) = length-set (seenAfter z words vs ts seen i) _ _ ∙ after-length i
+
+  pub bad-here : (i : ℕ) → fresh z words (seenAfter z words vs ts seen i) (triangleOf vs ts i) ≡ false → badIn z words vs ts seen i ≡ true
+  unfolding badIn
+  bad-here i q = ap not q
+
+  pub good-here : (i : ℕ) → fresh z words (seenAfter z words vs ts seen i) (triangleOf vs ts i) ≡ true → badIn z words vs ts seen i ≡ false
+  unfolding badIn
+  good-here i q = ap not q
+
+  pub first-found : (nt i : ℕ) → i < nt → ((k : ℕ) → k < i → badIn z words vs ts seen k ≡ false) → badIn z words vs ts seen i ≡ true
+      → i ≡ firstBadIn z words vs ts seen nt
+  unfolding firstBadIn
+  first-found nt i h good bad = sym (first-at (badIn z words vs ts seen) nt 0 nt i (omega arith) (omega arith) (λ k g l. good k l) bad)
+
+  pub first-missing : (nt : ℕ) → ((k : ℕ) → k < nt → badIn z words vs ts seen k ≡ false) → nt ≡ firstBadIn z words vs ts seen nt
+  unfolding firstBadIn
+  first-missing nt good = sym (first-none (badIn z words vs ts seen) nt 0 nt (λ k g l. good k (omega arith)))

@@ -1,0 +1,3 @@
+-- Laws of the triangles.
+pub mod Laws
+pub mod Meaning

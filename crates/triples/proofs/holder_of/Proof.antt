@@ -1,0 +1,92 @@
+-- The least coordinates of the three anchors give the cube's number. Assumes nothing.
+use mathlib.Core.Path.{_≡_, refl, sym, ap, _∙_}
+use Prim.Native.Nat.{ℕ, _+_, _-_, _*_, min, _≤_}
+use native.Mathlib.Omega.{arith}
+use Rattle.paper.specs.Lattice.{cubeNo}
+use Rattle.triples.specs.Triples.{holder}
+use Rattle.triples.proofs.Laws.{digits-small}
+use borrow.Author.Needs.{needs}
+use Rattle.triples.proofs.holder_of.Statement.{statement}
+use Rattle.triples.proofs.holder_of.Tie as tie
+
+module _ (c : tie.After-least3) where
+  low : (c .before .before .least .result ≤ 63) × (c .before .least2 .result ≤ 63) × (c .least3 .result ≤ 63)
+  low =
+      let s = c .before .before .before .before .before .before .pre .0 in
+      let a = c .before .before .before .before .before .anchor-of .ensures .1 in (
+        omega (arith, c .before .before .least .ensures, a .x, s .x-high),
+        omega (arith, c .before .least2 .ensures, a .y, s .y-high),
+        omega (arith, c .least3 .ensures, a .z, s .z-high),
+      )
+
+  small : ((c .before .before .before .before .before .before .args .sizes .ny - 1) * c .least3 .result ≤ 3969)
+      × ((c .before .before .before .before .before .before .args .sizes .nx - 1) * (c .before .least2 .result + (c .before .before .before .before .before .before .args .sizes .ny - 1) * c .least3 .result) ≤ 254016)
+  small =
+      let s = c .before .before .before .before .before .before .pre .0 in
+      digits-small (c .before .before .before .before .before .before .args .sizes .nx - 1) (c .before .before .before .before .before .before .args .sizes .ny - 1) (c .before .least2 .result) (c .least3 .result)
+      (omega (arith, s .x-high)) (omega (arith, s .y-high)) (low .1) (low .2)
+
+anchor-of-requires : tie.Need-anchor-of-requires
+anchor-of-requires c κs = search needs
+
+anchor-of-requires-2 : tie.Need-anchor-of-requires-2
+anchor-of-requires-2 c κs = search needs
+
+anchor-of-requires-3 : tie.Need-anchor-of-requires-3
+anchor-of-requires-3 c κs = search needs
+
+least-requires : tie.Need-least-requires
+least-requires c κs = search needs
+
+least-requires-2 : tie.Need-least-requires-2
+least-requires-2 c κs = search needs
+
+least-requires-3 : tie.Need-least-requires-3
+least-requires-3 c κs = search needs
+
+sub-result : tie.Need-sub-result
+sub-result c = search needs
+
+sub-result-2 : tie.Need-sub-result-2
+sub-result-2 c = search needs
+
+mul-result : tie.Need-mul-result
+mul-result c = omega (arith, small (c .before .before))
+
+add-result : tie.Need-add-result
+add-result c = omega (arith, small (c .before .before), low (c .before .before))
+
+mul-result-2 : tie.Need-mul-result-2
+mul-result-2 c = omega (arith, small (c .before .before))
+
+add-result-2 : tie.Need-add-result-2
+add-result-2 c = omega (arith, small (c .before .before), low (c .before .before))
+
+returns : tie.Need-returns
+unfolding holder cubeNo
+returns c =
+    let a = c .before .before .before .before .before .before .before .anchor-of .ensures .0 in
+    let b = c .before .before .before .before .before .before .anchor-of2 .ensures .0 in
+    let d = c .before .before .before .before .before .anchor-of3 .ensures .0 in
+    let x = c .before .before .before .before .least .ensures ∙ (λ j. min (min (a j .x) (b j .x)) (d j .x)) in
+    let y = c .before .before .before .least2 .ensures ∙ (λ j. min (min (a j .y) (b j .y)) (d j .y)) in
+    let z = c .before .before .least3 .ensures ∙ (λ j. min (min (a j .z) (b j .z)) (d j .z)) in
+    λ j. x j + (c .before .before .before .before .before .before .before .before .args .sizes .nx - 1) * (y j + (c .before .before .before .before .before .before .before .before .args .sizes .ny - 1) * z j)
+
+pub holder-of-spec : {M : Type 1} → statement M
+holder-of-spec =
+    tie.close
+    (tie.spec
+    anchor-of-requires
+    anchor-of-requires-2
+    anchor-of-requires-3
+    least-requires
+    least-requires-2
+    least-requires-3
+    sub-result
+    sub-result-2
+    mul-result
+    add-result
+    mul-result-2
+    add-result-2
+    returns)

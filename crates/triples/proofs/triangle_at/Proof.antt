@@ -1,0 +1,42 @@
+-- The three corners. Assumes nothing.
+use mathlib.Core.Path.{_≡_, refl, sym, ap, _∙_}
+use Rattle.paper.specs.Tables.{tri}
+use Rattle.paper.specs.Check.{triangleOf}
+use borrow.Author.Needs.{needs}
+use Rattle.triples.proofs.triangle_at.Statement.{statement}
+use Rattle.triples.proofs.triangle_at.Tie as tie
+
+mul-at : tie.Need-mul-at
+mul-at c = search needs
+
+corner-edge-requires : tie.Need-corner-edge-requires
+corner-edge-requires c κs = search needs
+
+add-corner-edge : tie.Need-add-corner-edge
+add-corner-edge c = search needs
+
+corner-edge-requires-2 : tie.Need-corner-edge-requires-2
+corner-edge-requires-2 c κs = search needs
+
+add-corner-edge-2 : tie.Need-add-corner-edge-2
+add-corner-edge-2 c = search needs
+
+corner-edge-requires-3 : tie.Need-corner-edge-requires-3
+corner-edge-requires-3 c κs = search needs
+
+returns : tie.Need-returns
+unfolding triangleOf
+returns c =
+    ((λ i. tri (c .before .before .corner-edge .ensures .0 i) (c .before .corner-edge2 .ensures .0 i) (c .corner-edge3 .ensures .0 i)), record { a = c .before .before .corner-edge .ensures .1; b = c .before .corner-edge2 .ensures .1; c = c .corner-edge3 .ensures .1 })
+
+pub triangle-at-spec : {M : Type 1} → statement M
+triangle-at-spec =
+    tie.close
+    (tie.spec
+    mul-at
+    corner-edge-requires
+    add-corner-edge
+    corner-edge-requires-2
+    add-corner-edge-2
+    corner-edge-requires-3
+    returns)

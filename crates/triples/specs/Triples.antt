@@ -1,0 +1,81 @@
+-- A file's triangles, named by edges, against the triangles of the visited cubes. Assumes nothing.
+use mathlib.Core.Bool.{Bool, cond, not, _&&_}
+use mathlib.Core.List.{List}
+use Prim.Native.Nat.{ℕ, zero, suc, _+_, _*_, _/_, _%_, _^_, min, _≤_, _<_}
+use lib.IntN.{ℤ}
+use lib.Dec.{eqb, ltb}
+use lib.ListN.{length, getD, set}
+use Rattle.lists.specs.Lists.{range, first}
+use Rattle.paper.specs.declared.Sizes.{Sizes}
+use Rattle.paper.specs.declared.Place.{Place}
+use Rattle.paper.specs.Lattice.{place, sampleAt, cubes, cubeNo}
+use Rattle.paper.specs.Tables.{Tri, tri}
+use Rattle.paper.specs.Build.{neededSlots}
+use Rattle.paper.specs.Check.{turned, edgeOf, triangleOf}
+use Rattle.sides.specs.Pattern.{bitOf}
+use Rattle.tetra.specs.Cut.{rowBy, rowCount, rowTriangles}
+use Rattle.survey.specs.Marks.{baseOf}
+use Rattle.records.specs.Records.{edgeIn}
+
+-- the edges of the first nv records are among n
+pub record Named (n : ℕ) (vs : List ℤ) (nv : ℕ) : Type 0 where
+  pub below : (i : ℕ) → i < nv → edgeIn (edgeOf vs i) n < n
+
+-- the edges of a triangle are among n
+pub record Among (n : ℕ) (t : Tri) : Type 0 where
+  pub a : t .a < n
+  pub b : t .b < n
+  pub c : t .c < n
+
+-- the cube that can hold a triangle: at the least x, y and z of the anchors of its edges
+unfoldable pub holder : Sizes → Tri → ℕ
+holder z t =
+    let a = sampleAt z (t .a / 7) in
+    let b = sampleAt z (t .b / 7) in
+    let c = sampleAt z (t .c / 7) in
+    cubeNo z (place (min (min (a .x) (b .x)) (c .x)) (min (min (a .y) (b .y)) (c .y)) (min (min (a .z) (b .z)) (c .z)))
+
+-- t is triangle c of a cube with pattern m, read from any corner; c counts two to a tetrahedron
+unfoldable pub isAt : Sizes → ℕ → ℕ → Tri → ℕ → Bool
+isAt z base m t c =
+    let r = rowBy m (c / 2) in
+    ltb (c % 2) (rowCount r) && turned t (getD (rowTriangles z base (c / 2) r) (c % 2) (tri 0 0 0))
+
+-- the place of t in a cube with pattern m, or 12
+unfoldable pub placeBy : Sizes → ℕ → ℕ → Tri → ℕ
+placeBy z base m t = first (isAt z base m t) 12 (range 0 12)
+
+-- the place of t in cube k, by its word: 12 where there is no such cube, or it has no word
+unfoldable pub placeIn : Sizes → List ℕ → ℕ → Tri → ℕ
+placeIn z words k t =
+    let word = getD words k 0 in
+    cond (ltb k (cubes z) && not (eqb word 0)) (placeBy z (baseOf z k) (word % 256) t) 12
+
+unfoldable pub placeOf : Sizes → List ℕ → Tri → ℕ
+placeOf z words t = placeIn z words (holder z t) t
+
+-- t is a triangle of its cube, and its bit there is 0
+unfoldable pub fresh : Sizes → List ℕ → List ℕ → Tri → Bool
+fresh z words seen t =
+    let c = placeOf z words t in
+    ltb c 12 && eqb (bitOf (getD seen (holder z t) 0) c) 0
+
+-- its bit becomes 1
+unfoldable pub noted : Sizes → List ℕ → List ℕ → Tri → List ℕ
+noted z words seen t = set seen (holder z t) (getD seen (holder z t) 0 + 2 ^ placeOf z words t)
+
+-- the bits of each of the first n are those of 12 places
+pub record Small (n : ℕ) (seen : List ℕ) : Type 0 where
+  pub at : (k : ℕ) → k < n → getD seen k 0 < 4096
+
+-- the bits after the first i triangles
+unfoldable pub seenAfter : Sizes → List ℕ → List ℤ → List ℕ → List ℕ → ℕ → List ℕ
+seenAfter z words vs ts seen zero = seen
+seenAfter z words vs ts seen (suc i) = noted z words (seenAfter z words vs ts seen i) (triangleOf vs ts i)
+
+-- triangle i is not one of its cube's, or its bit is 1; the first such of nt, or nt
+unfoldable pub badIn : Sizes → List ℕ → List ℤ → List ℕ → List ℕ → ℕ → Bool
+badIn z words vs ts seen i = not (fresh z words (seenAfter z words vs ts seen i) (triangleOf vs ts i))
+
+unfoldable pub firstBadIn : Sizes → List ℕ → List ℤ → List ℕ → List ℕ → ℕ → ℕ
+firstBadIn z words vs ts seen nt = first (badIn z words vs ts seen) nt (range 0 nt)
