@@ -1,6 +1,7 @@
 // What document 01's answers and starts are made of. The definitions that it gives them stand in specs/.
 
 // How many samples a lattice has on each axis.
+#[repr(C)]
 pub struct Sizes {
     pub nx: usize,
     pub ny: usize,
@@ -8,6 +9,7 @@ pub struct Sizes {
 }
 
 // Where a sample or a cube stands.
+#[repr(C)]
 pub struct Place {
     pub x: usize,
     pub y: usize,
@@ -21,12 +23,14 @@ pub enum Start {
 }
 
 // The answer of a test: 0 or the number of a refusal, and its place.
+#[repr(C)]
 pub struct Verdict {
     pub number: usize,
     pub place: usize,
 }
 
 // The answer of a build.
+#[repr(C)]
 pub struct Built {
     pub number: usize,
     pub vertices: usize,
@@ -35,6 +39,7 @@ pub struct Built {
 }
 
 // The answer of a writer.
+#[repr(C)]
 pub struct Wrote {
     pub number: usize,
     pub place: usize,
@@ -42,6 +47,7 @@ pub struct Wrote {
 }
 
 // The answer of a reader.
+#[repr(C)]
 pub struct Got {
     pub number: usize,
     pub place: usize,

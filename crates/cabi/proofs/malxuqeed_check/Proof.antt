@@ -1,0 +1,36 @@
+-- The start, then the entry point. Assumes nothing.
+use mathlib.Core.Path.{subst}
+use denote.Ref.{now}
+use Rattle.paper.specs.declared.Start.{Start}
+use Rattle.paper.specs.Lattice.{lattice}
+use Rattle.paper.specs.Check.{work, Checks}
+use borrow.Author.Needs.{needs}
+use Rattle.cabi.proofs.malxuqeed_check.Statement.{statement}
+use Rattle.cabi.proofs.malxuqeed_check.Tie as tie
+
+start-if-requires : tie.Need-start-if-requires
+start-if-requires c κs = search needs
+
+check-requires : tie.Need-check-requires
+check-requires c κs = search needs
+
+same-length : tie.Need-same-length
+same-length c = search needs
+
+same-length-2 : tie.Need-same-length-2
+same-length-2 c = search needs
+
+same-length-3 : tie.Need-same-length-3
+same-length-3 c = search needs
+
+returns : tie.Need-returns
+returns c =
+    let a = c .before .before .before .before .before .before .before .before .before .before .before .before .before .before .before .args in
+    subst (λ (s : Start). Checks (lattice (a .sizes) (now (a .samples))) s (now (a .bytes)) (work (now (a .words)) (now (a .waiting)) (now (a .slots))) (c .before .before .before .before .before .before .check .result) (work (c .before .before .before .before .before .before .check .last .1 .1 .1 .1 .0) (c .before .before .before .before .before .before .check .last .1 .1 .1 .1 .1 .0) (c .before .before .before .before .before .before .check .last .1 .1 .1 .1 .1 .1 .0)))
+    (c .before .before .before .before .before .before .before .before .before .before .start-if .ensures)
+    (c .before .before .before .before .before .before .check .ensures)
+
+pub malxuqeed-check-spec : {M : Type 1} → statement M
+malxuqeed-check-spec =
+    tie.close
+    (tie.spec start-if-requires check-requires same-length same-length-2 same-length-3 returns)

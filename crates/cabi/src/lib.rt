@@ -1,0 +1,89 @@
+// The library for programs in other languages: the four entry points under plain names, a start as a flag and a place.
+use paper::Built;
+use paper::Got;
+use paper::Place;
+use paper::Sizes;
+use paper::Start;
+use paper::Verdict;
+use paper::Wrote;
+ghost use mathlib.Core.Path.{_≡_};
+ghost use Rattle.paper.specs.Lattice.{lattice};
+ghost use Rattle.paper.specs.Build.{lent, Builds};
+ghost use Rattle.paper.specs.File.{Writes, Reads};
+ghost use Rattle.paper.specs.Check.{work, Checks};
+ghost use Rattle.cabi.specs.Named.{startIf};
+
+// The start that a flag and a place name.
+fn start_if(named: bool, start: Place) -> Start
+    ensures { λ r. ⌜ r ≡ startIf named start ⌝ }
+{
+    if named {
+        return Start::Cube(start);
+    }
+    Start::Unnamed
+}
+
+#[no_mangle]
+pub extern "C" fn malxuqeed_build(
+    sizes: Sizes,
+    named: bool,
+    start: Place,
+    samples: &[i16],
+    vertices: &mut [i32],
+    triangles: &mut [u32],
+    words: &mut [u16],
+    waiting: &mut [u32],
+    slots: &mut [u32],
+) -> Built
+    ensures { λ r. ⌜ Builds (lattice sizes (now (samples .entry))) (startIf named start) (lent (now (vertices .entry)) (now (triangles .entry)) (now (words .entry)) (now (waiting .entry)) (now (slots .entry))) r (lent (now (vertices .exit)) (now (triangles .exit)) (now (words .exit)) (now (waiting .exit)) (now (slots .exit))) ⌝ }
+{
+    let at = start_if(named, start);
+    sheet::build(
+        samples,
+        sizes,
+        at,
+        vertices,
+        triangles,
+        words,
+        waiting,
+        slots,
+    )
+}
+
+#[no_mangle]
+pub extern "C" fn malxuqeed_write(
+    sizes: Sizes,
+    nv: usize,
+    nt: usize,
+    vertices: &[i32],
+    triangles: &[u32],
+    bytes: &mut [u8],
+) -> Wrote
+    ensures { λ r. ⌜ Writes sizes nv nt (now (vertices .entry)) (now (triangles .entry)) (now (bytes .entry)) r (now (bytes .exit)) ⌝ }
+{
+    sheetfile::write(sizes, nv, nt, vertices, triangles, bytes)
+}
+
+#[no_mangle]
+pub extern "C" fn malxuqeed_read(bytes: &[u8], vertices: &mut [i32], triangles: &mut [u32]) -> Got
+    ensures { λ r. ⌜ Reads (now (bytes .entry)) (now (vertices .entry)) (now (triangles .entry)) r (now (vertices .exit)) (now (triangles .exit)) ⌝ }
+{
+    sheetfile::read(bytes, vertices, triangles)
+}
+
+#[no_mangle]
+pub extern "C" fn malxuqeed_check(
+    sizes: Sizes,
+    named: bool,
+    start: Place,
+    samples: &[i16],
+    bytes: &[u8],
+    words: &mut [u16],
+    waiting: &mut [u32],
+    slots: &mut [u32],
+) -> Verdict
+    ensures { λ r. ⌜ Checks (lattice sizes (now (samples .entry))) (startIf named start) (now (bytes .entry)) (work (now (words .entry)) (now (waiting .entry)) (now (slots .entry))) r (work (now (words .exit)) (now (waiting .exit)) (now (slots .exit))) ⌝ }
+{
+    let at = start_if(named, start);
+    checker::check(samples, sizes, at, bytes, words, waiting, slots)
+}
