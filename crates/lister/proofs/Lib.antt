@@ -2,3 +2,4 @@
 pub mod Signed
 pub mod Passing
 pub mod Answers
+pub mod Fits
