@@ -1,0 +1,4 @@
+// The listing program on five bytes.
+fn main() {
+    printer::run();
+}
