@@ -95,8 +95,8 @@ fn counts(v: usize, t: usize, c: usize) {
     text(b"\n");
 }
 
-// "Its own room is .. 1,000 vertices and 2,000 triangles."
-fn listing(input: &[u8]) {
+// The listing of bytes, printed. "Its own room is .. 1,000 vertices and 2,000 triangles."
+pub fn listing(input: &[u8]) {
     let mut vs = [0i32; 4000];
     let mut ts = [0u32; 6000];
     let r = lister::list(input, &mut vs, &mut ts);

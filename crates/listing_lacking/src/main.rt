@@ -1,4 +1,0 @@
-// The listing program on document 01's example with a byte less.
-fn main() {
-    printer::run();
-}

@@ -1,4 +1,0 @@
-// The listing program on document 01's example with a byte more.
-fn main() {
-    printer::run();
-}

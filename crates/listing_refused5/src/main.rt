@@ -1,4 +1,0 @@
-// The listing program on samples that are all 0.
-fn main() {
-    printer::run();
-}

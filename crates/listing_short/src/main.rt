@@ -1,4 +1,0 @@
-// The listing program on five bytes.
-fn main() {
-    printer::run();
-}
