@@ -27,28 +27,28 @@ use Rattle.records.proofs.Meaning.{record-edge}
 use Rattle.checker.proofs.Counting.{few, count-some, matched, count-le-sum}
 
 -- a test that is not failed
-refuted : (a b : Bool) → (not a || b) ≡ false → T a × (T b → ⊥)
+pub refuted : (a b : Bool) → (not a || b) ≡ false → T a × (T b → ⊥)
 refuted true b e = (tt, λ t. subst T e t)
 refuted false b e = absurd (subst T e tt)
 
 -- two numbers that are alike and neither of which is earlier than the other
-by-order : (P : ℕ → ℕ → Type 0) → ((i j : ℕ) → j < i → P i j → ⊥) → ((i j : ℕ) → P i j → P j i) → (i j : ℕ) → P i j → i ≡ j
+pub by-order : (P : ℕ → ℕ → Type 0) → ((i j : ℕ) → j < i → P i j → ⊥) → ((i j : ℕ) → P i j → P j i) → (i j : ℕ) → P i j → i ≡ j
 by-order P h turn i j p =
     elim (ℕ-discrete i j) [ yes e ↦ e | no n ↦ elim (decLt i j) [ yes l ↦ absurd (h j i l (turn i j p)) | no l ↦ absurd (h i j (omega arith) p) ] ]
 
-below : (n i : ℕ) → In i (range 0 n) → i < n
+pub below : (n i : ℕ) → In i (range 0 n) → i < n
 below n i m = omega (arith, range-in 0 n i (list-in m))
 
-earlier : (n i : ℕ) → i < n → In i (range 0 n)
+pub earlier : (n i : ℕ) → i < n → In i (range 0 n)
 earlier n i h = in-list i (range 0 n) (in-range 0 n i (omega arith) (omega arith))
+
+pub distinct-edges : (L : Lattice) (start : ℕ) → Unique (sheetOf L start .edges)
+unfolding sheetOf
+distinct-edges L start = rising-unique 0 (vertexEdges L (visited L start)) (edges-rising L (visited L start))
 
 module _ (L : Lattice) (start : ℕ) (vs : List ℤ) (nv : ℕ) (good : (i : ℕ) → i < nv → badRecord L (sheetOf L start) vs i ≡ false) where
   abbrev edges : List ℕ
   edges = sheetOf L start .edges
-
-  distinct-edges : Unique edges
-  unfolding sheetOf
-  distinct-edges = rising-unique 0 (vertexEdges L (visited L start)) (edges-rising L (visited L start))
 
   record-has : (i : ℕ) → i < nv → (e : ℕ) × In e edges × (edgeOf vs i ≡ pos e)
   unfolding badRecord
@@ -67,7 +67,7 @@ module _ (L : Lattice) (start : ℕ) (vs : List ℤ) (nv : ℕ) (good : (i : ℕ
   one-edge : (i : ℕ) → In i (range 0 nv) → count (λ e. sameNumber (edgeOf vs i) (pos e)) edges ≡ 1
   one-edge i m =
       let w = record-has i (below nv i m) in
-      ap (λ (x : ℤ). count (λ e. sameNumber x (pos e)) edges) (w .2) ∙ count-unique distinct-edges (w .1)
+      ap (λ (x : ℤ). count (λ e. sameNumber x (pos e)) edges) (w .2) ∙ count-unique (distinct-edges L start) (w .1)
 
   one-record : (e : ℕ) → In e edges → count (λ i. sameNumber (edgeOf vs i) (pos e)) (range 0 nv) ≤ 1
   one-record e m =
@@ -89,13 +89,9 @@ own-hit t =
     count-some (isArrow (t .a) (t .b)) {l = arrow (t .a) (t .b) ∷ arrow (t .b) (t .c) ∷ arrow (t .c) (t .a) ∷ []} (here refl)
     (and-both (eqb (t .a) (t .a)) (eqb (t .b) (t .b)) (eqb-refl (t .a)) (eqb-refl (t .b)))
 
-module _ (L : Lattice) (s : Sized (L .size)) (start : ℕ) (h : start < cubes (L .size)) (vs : List ℤ) (ts : List ℕ) (nt : ℕ)
-    (good : (i : ℕ) → i < nt → badNaming (sheetOf L start) vs ts i ≡ false) where
+module _ (L : Lattice) (s : Sized (L .size)) (start : ℕ) (h : start < cubes (L .size)) where
   abbrev us : List Tri
   us = sheetOf L start .byEdge
-
-  abbrev tri-at : ℕ → Tri
-  tri-at = triangleOf vs ts
 
   -- the sheet's triangles are not turned into one another: each directed edge occurs once
   few-times : (m n : ℕ) → times us m n ≤ 1
@@ -117,17 +113,25 @@ module _ (L : Lattice) (s : Sized (L .size)) (start : ℕ) (h : start < cubes (L
         few-times a b,
       )
 
-  listed : (i : ℕ) → i < nt → T (any (turned (tri-at i)) us) × (T (any (λ j. turned (tri-at i) (tri-at j)) (range 0 i)) → ⊥)
+module _ (L : Lattice) (s : Sized (L .size)) (start : ℕ) (h : start < cubes (L .size)) (vs : List ℤ) (ts : List ℕ) (nt : ℕ)
+    (good : (i : ℕ) → i < nt → badNaming (sheetOf L start) vs ts i ≡ false) where
+  abbrev us′ : List Tri
+  us′ = sheetOf L start .byEdge
+
+  abbrev tri-at : ℕ → Tri
+  tri-at = triangleOf vs ts
+
+  listed : (i : ℕ) → i < nt → T (any (turned (tri-at i)) us′) × (T (any (λ j. turned (tri-at i) (tri-at j)) (range 0 i)) → ⊥)
   unfolding badNaming
-  listed i l = refuted (any (turned (tri-at i)) us) (any (λ j. turned (tri-at i) (tri-at j)) (range 0 i)) (good i l)
+  listed i l = refuted (any (turned (tri-at i)) us′) (any (λ j. turned (tri-at i) (tri-at j)) (range 0 i)) (good i l)
 
-  one-triangle : (i : ℕ) → In i (range 0 nt) → count (λ u. turned u (tri-at i)) us ≡ 1
+  one-triangle : (i : ℕ) → In i (range 0 nt) → count (λ u. turned u (tri-at i)) us′ ≡ 1
   one-triangle i m =
-      let w = at-any (turned (tri-at i)) us (listed i (below nt i m) .0) in
+      let w = at-any (turned (tri-at i)) us′ (listed i (below nt i m) .0) in
       let c = count-some (λ u. turned u (tri-at i)) (w .1) (turned-is (back (is-turned (tri-at i) (w .0) (w .2)))) in
-      omega (arith, one-alike (tri-at i))
+      omega (arith, one-alike L s start h (tri-at i))
 
-  one-naming : (u : Tri) → In u us → count (λ i. turned u (tri-at i)) (range 0 nt) ≤ 1
+  one-naming : (u : Tri) → In u us′ → count (λ i. turned u (tri-at i)) (range 0 nt) ≤ 1
   one-naming u m =
       few (λ i. turned u (tri-at i)) (range-unique 0 nt)
       (λ i j a b x y.
@@ -136,12 +140,12 @@ module _ (L : Lattice) (s : Sized (L .size)) (start : ℕ) (h : start < cubes (L
       (λ i j q. (q .1, q .0, back (q .2))) i j
       (below nt i a, below nt j b, along (back (is-turned u (tri-at i) x)) (is-turned u (tri-at j) y)))
 
-  pub triangles-full : eqb nt (length us) ≡ not (any (λ t. not (any (λ i. turned t (tri-at i)) (range 0 nt))) us)
+  pub triangles-full : eqb nt (length us′) ≡ not (any (λ t. not (any (λ i. turned t (tri-at i)) (range 0 nt))) us′)
   triangles-full =
-      ap (λ (n : ℕ). eqb n (length us)) (sym (length-range 0 nt))
-      ∙ matched (λ i u. turned u (tri-at i)) (range 0 nt) us one-triangle one-naming
+      ap (λ (n : ℕ). eqb n (length us′)) (sym (length-range 0 nt))
+      ∙ matched (λ i u. turned u (tri-at i)) (range 0 nt) us′ one-triangle one-naming
 
   pub complete-is : (nv : ℕ) → ((i : ℕ) → i < nv → badRecord L (sheetOf L start) vs i ≡ false)
-      → (eqb nv (length (sheetOf L start .edges)) && eqb nt (length us)) ≡ complete (sheetOf L start) vs ts nv nt
+      → (eqb nv (length (sheetOf L start .edges)) && eqb nt (length us′)) ≡ complete (sheetOf L start) vs ts nv nt
   unfolding complete
   complete-is nv g = λ i. vertices-full L start vs nv g i && triangles-full i

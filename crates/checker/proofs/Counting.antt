@@ -82,6 +82,22 @@ count-le-sum p f (x ∷ l) h = go (p x) (h x) (count-more p x l) (count-le-sum p
     go true g e r = omega (arith, g tt)
     go false g e r = omega arith
 
+-- two that pass are one, where at most one passes
+pub count-one : {A : Type 0} (p : A → Bool) {l : List A} {a b : A} → count p l ≤ 1 → In a l → In b l → T (p a) → T (p b) → a ≡ b
+unfolding one-if
+count-one p h (here e) (here q) s t = e ∙ sym q
+count-one p {l = x ∷ l} h (here e) (there j) s t = absurd (both (p x) (subst (λ (y : _). T (p y)) e s) (count-more p x l) (count-some p j t))
+  where
+    both : (b : Bool) → T b → count p (x ∷ l) ≡ cond b 1 0 + count p l → 0 < count p l → ⊥
+    both true t e g = omega arith
+    both false t e g = t
+count-one p {l = x ∷ l} h (there i) (here q) s t = absurd (both (p x) (subst (λ (y : _). T (p y)) q t) (count-more p x l) (count-some p i s))
+  where
+    both : (b : Bool) → T b → count p (x ∷ l) ≡ cond b 1 0 + count p l → 0 < count p l → ⊥
+    both true t e g = omega arith
+    both false t e g = t
+count-one p {l = x ∷ l} h (there i) (there j) s t = count-one p {l = l} (omega (arith, count-more p x l)) i j s t
+
 -- at most one, where no two different ones pass
 pub few : {A : Type 0} (p : A → Bool) {l : List A} → Unique l → ((a b : A) → In a l → In b l → T (p a) → T (p b) → a ≡ b) → count p l ≤ 1
 unfolding one-if

@@ -56,7 +56,7 @@ pub record Done (z : Sizes) (nv nt : ℕ) (vs : List ℤ) (ts before after : Lis
   pub bytes : take (r .bytes) after ≡ fileBytes (contentOf z nv nt vs ts)
 
 module _ {z : Sizes} {nv nt : ℕ} {vs : List ℤ} {ts before after : List ℕ} {r : Wrote} (w : Writes z nv nt vs ts before r after) where
-  written-bytes : r .number ≡ 0 → Done z nv nt vs ts before after r
+  pub written-bytes : r .number ≡ 0 → Done z nv nt vs ts before after r
   unfolding wrote outputAfter fileLength trailerAt
   written-bytes h =
       let file = fileBytes (contentOf z nv nt vs ts) in

@@ -1,0 +1,246 @@
+-- What a build and then a write make is accepted. Assumes nothing.
+use mathlib.Core.Path.{_≡_, refl, sym, ap, subst, _∙_}
+use mathlib.Core.Bool.{Bool, true, false, cond}
+use mathlib.Core.List.{List, [], _∷_, _++_, map}
+use Prim.Native.Nat.{ℕ, zero, suc, _+_, _*_, _/_, _%_, _≤_, _<_}
+use native.Mathlib.Omega.{arith}
+use lib.IntN.{ℤ, pos, natAbs}
+use lib.Dec.{T, eqb}
+use lib.ListN.{length, getD, take, drop, List·getD-append, length-map, length-append}
+use lib.Seq.{take-append-seam, take-append-le, drop-append-add, ext-getD}
+use borrow.Author.Tests.{eqb-true}
+use mir.Syntax.{w32}
+use mir.Val.{SFits}
+use Rattle.lists.specs.Lists.{range, each, over, isIn}
+use Rattle.lists.proofs.Every.{All, all-at, all-getD, all-each, all-weak}
+use Rattle.lists.proofs.Runs.{length-along, at-along, getD-map-lt}
+use Rattle.paper.specs.declared.Sizes.{Sizes}
+use Rattle.paper.specs.declared.Place.{Place}
+use Rattle.paper.specs.declared.Start.{Start}
+use Rattle.paper.specs.declared.Verdict.{Verdict}
+use Rattle.paper.specs.declared.Built.{Built}
+use Rattle.paper.specs.declared.Wrote.{Wrote}
+use Rattle.paper.specs.Lattice.{Lattice, samples, cubes, sampleAt, airAt, corner}
+use Rattle.paper.specs.Tables.{Tri, tri, ends, kinds}
+use Rattle.paper.specs.Sheet.{Sheet, sheetOf, recordAt, vertexRecord, vertexWords, corners3, triangleWords}
+use Rattle.paper.specs.Within.{Sized}
+use Rattle.paper.specs.Tests.{verdict, judge}
+use Rattle.paper.specs.Build.{Lent, startOf, sampleTests, buildNumber, counted, uncounted, built, outputAfter, lentAfter, Builds}
+use Rattle.paper.specs.File.{contentOf, fileBytes, writeVerdict, Writes, fileV, fileT, fileVertices, fileTriangles}
+use Rattle.paper.specs.Check.{recordOf, edgeOf, cornerOf, triangleOf, sameNumbers, turned, checked}
+use Rattle.paper.proofs.Listing.{Below, named, edges-lt, sheet-positioned, indices-below, indices-name, vertex-words-length, triangle-words-length}
+use Rattle.paper.proofs.Crossing.{Positioned}
+use Rattle.tetra.proofs.Laws.{three}
+use Rattle.lattice.proofs.Laws.{samples-few}
+use Rattle.codec.specs.Words.{Words}
+use Rattle.layout.proofs.Passing.{first-same}
+use Rattle.pairing.specs.Pairing.{count}
+use Rattle.pairing.proofs.Tests.{sample-tests}
+use Rattle.records.proofs.Meaning.{record-edge}
+use Rattle.sheetfile.specs.Taken.{Taken}
+use Rattle.sheetfile.specs.Trips.{Holds}
+use Rattle.sheetfile.proofs.Answers.{taken, taken-verdict}
+use Rattle.sheetfile.proofs.Written.{written}
+use Rattle.sheetfile.proofs.RoundTrips.{written-bytes}
+use Rattle.acceptance.specs.Holding.{fileRecords, fileTriples, sheetRecords, Holding, Acceptable}
+use Rattle.acceptance.proofs.Exact.{numbers-same, accepted-exactly}
+
+-- ── lists ──
+
+-- along a run as long as a list
+run-is : {A B : Type 0} (g : ℕ → B) (f : A → B) (l : List A) (d : A) (e : B) → ((i : ℕ) → i < length l → g i ≡ f (getD l i d)) → map g (range 0 (length l)) ≡ map f l
+run-is g f l d e h =
+    ext-getD e (map g (range 0 (length l))) (map f l) (length-along g 0 (length l) ∙ sym (length-map l f))
+    (λ i b.
+    let c : i < length l = omega (arith, length-along g 0 (length l)) in
+    at-along g e (length l) i c ∙ (h i c ∙ sym (getD-map-lt f l i e d c)))
+
+record-length : (L : Lattice) (e : ℕ) → length (vertexRecord L e) ≡ 4
+unfolding vertexRecord recordAt
+record-length L e =
+    let anchor = sampleAt (L .size) (e / 7) in
+    let k = getD kinds (e % 7) (ends 0 0) in
+    go (airAt L (corner anchor (k .a))) (corner anchor (k .a)) (corner anchor (k .b))
+  where
+    go : (b : Bool) (u v : Place) → length (cond b (recordAt L e v u) (recordAt L e u v)) ≡ 4
+    go true u v = refl
+    go false u v = refl
+
+-- the four numbers of record i of records one behind the other
+record-at : (L : Lattice) (es : List ℕ) (i : ℕ) → i < length es → recordOf (each (vertexRecord L) es) i ≡ vertexRecord L (getD es i 0)
+unfolding recordOf
+record-at L [] i h = absurd (omega arith)
+record-at L (e ∷ es) zero h =
+    let r = vertexRecord L e in
+    ap (λ (n : ℕ). take n (r ++ each (vertexRecord L) es)) (sym (record-length L e)) ∙ take-append-seam r (each (vertexRecord L) es)
+record-at L (e ∷ es) (suc i) h =
+    let r = vertexRecord L e in
+    let q : 4 * suc i ≡ length r + 4 * i = omega (arith, record-length L e) in
+    ap (take 4) (ap (λ (n : ℕ). drop n (r ++ each (vertexRecord L) es)) q ∙ drop-append-add r (each (vertexRecord L) es) (4 * i))
+    ∙ record-at L es i (omega arith)
+
+-- ── the words of a sheet ──
+
+module _ (L : Lattice) (s : Sized (L .size)) (start : ℕ) where
+  abbrev S : Sheet
+  S = sheetOf L start
+
+  abbrev nv : ℕ
+  nv = length (S .edges)
+
+  abbrev nt : ℕ
+  nt = length (S .triangles)
+
+  abbrev vw : List ℤ
+  vw = vertexWords L S
+
+  abbrev tw : List ℕ
+  tw = triangleWords S
+
+  records-are : map (recordOf vw) (range 0 nv) ≡ map (vertexRecord L) (S .edges)
+  unfolding vertexWords
+  records-are = run-is (recordOf vw) (vertexRecord L) (S .edges) 0 [] (record-at L (S .edges))
+
+  edge-at : (k : ℕ) → k < nv → natAbs (edgeOf vw k) ≡ getD (S .edges) k 0
+  unfolding vertexWords
+  edge-at k h = ap natAbs (record-edge L vw k (getD (S .edges) k 0) (numbers-same (recordOf vw k) (vertexRecord L (getD (S .edges) k 0)) (record-at L (S .edges) k h)))
+
+  triangles-are : map (triangleOf vw tw) (range 0 nt) ≡ S .byEdge
+  unfolding triangleOf cornerOf triangleWords
+  triangles-are =
+      run-is (triangleOf vw tw) (named (S .edges)) (S .triangles) (tri 0 0 0) (tri 0 0 0)
+      (λ i h.
+      let t = getD (S .triangles) i (tri 0 0 0) in
+      let w = three (S .triangles) i h in
+      let b = all-at (Below nv) (S .triangles) (tri 0 0 0) (indices-below L s start) i h in
+      let x = ap (λ (n : ℕ). natAbs (edgeOf vw n)) (w .a) ∙ edge-at (t .a) (b .a) in
+      let y = ap (λ (n : ℕ). natAbs (edgeOf vw n)) (w .b) ∙ edge-at (t .b) (b .b) in
+      let z = ap (λ (n : ℕ). natAbs (edgeOf vw n)) (w .c) ∙ edge-at (t .c) (b .c) in
+      λ j. tri (x j) (y j) (z j))
+      ∙ indices-name L s start
+
+  -- each is a signed 32-bit number
+  words-fit : Words vw
+  unfolding vertexWords sheetOf
+  words-fit =
+      all-getD (SFits w32) vw (pos 0) (record { sfits = omega arith })
+      (all-each (SFits w32) (vertexRecord L) (S .edges)
+      (fits (S .edges) (sheet-positioned L s start) (unfold sheetOf in (edges-lt L _))))
+    where
+      fits : (l : List ℕ) → All (Positioned L) l → All (λ e. e < 7 * samples (L .size)) l → All (λ e. All (SFits w32) (vertexRecord L e)) l
+      fits [] p q = tt
+      fits (e ∷ l) p q =
+          let r = p .0 in
+          let f = samples-few (L .size) s in (
+            subst (All (SFits w32)) (sym (r .is))
+                (record { sfits = omega (arith, q .0) }, (record { sfits = omega (arith, r .x-le) }, (record { sfits = omega (arith, r .y-le) }, (record { sfits = omega (arith, r .z-le) }, tt)))),
+            fits l (p .1) (q .1),
+          )
+
+  -- a file with these words holds the sheet
+  holding : (bs : List ℕ) → Holds bs (L .size) nv nt vw tw → Holding L start bs
+  unfolding fileRecords fileTriples sheetRecords
+  holding bs h = record {
+    vertices = λ r. ap (count (sameNumbers r)) ((λ j. map (recordOf (h .vertices j)) (range 0 (h .count-v j))) ∙ records-are);
+    triangles = λ t. ap (count (turned t)) ((λ j. map (triangleOf (h .vertices j) (h .triangles j)) (range 0 (h .count-t j))) ∙ triangles-are);
+  }
+
+-- ── build, then write, then check ──
+
+-- a build that succeeds
+record Made (L : Lattice) (s : Start) (before : Lent) (r : Built) (after : Lent) : Type 0 where
+  vertices : r .vertices ≡ length (sheetOf L (startOf L s) .edges)
+  triangles : r .triangles ≡ length (sheetOf L (startOf L s) .triangles)
+  vertex-words : after .vertices ≡ over (vertexWords L (sheetOf L (startOf L s))) (before .vertices)
+  triangle-words : after .triangles ≡ over (triangleWords (sheetOf L (startOf L s))) (before .triangles)
+
+made : {L : Lattice} {s : Start} {before : Lent} {r : Built} {after : Lent} → Builds L s before r after → r .number ≡ 0 → Made L s before r after
+unfolding built lentAfter outputAfter
+made {L} {s} {before} {r} {after} b e =
+    let S = sheetOf L (startOf L s) in
+    let n : buildNumber L s before ≡ 0 = answered (buildNumber L s before) S (sym (ap (λ (x : Built). x .number) (b .answer)) ∙ e) in
+    let q : r ≡ counted 0 S = b .answer ∙ rw n in
+    record {
+      vertices = ap (λ (x : Built). x .vertices) q;
+      triangles = ap (λ (x : Built). x .triangles) q;
+      vertex-words = ap (λ (x : Lent). x .vertices) (b .left) ∙ rw n;
+      triangle-words = ap (λ (x : Lent). x .triangles) (b .left) ∙ rw n;
+    }
+  where
+    answered : (n : ℕ) (S : Sheet) → cond (isIn (0 ∷ 6 ∷ 7 ∷ []) n) (counted n S) (uncounted n) .number ≡ 0 → n ≡ 0
+    answered n S = go (isIn (0 ∷ 6 ∷ 7 ∷ []) n)
+      where
+        go : (b : Bool) → cond b (counted n S) (uncounted n) .number ≡ 0 → n ≡ 0
+        go true e = e
+        go false e = e
+
+module _ (L : Lattice) (sz : Sized (L .size)) (start : ℕ) (old : List ℤ) (old′ : List ℕ) (room : ℕ) where
+  abbrev T′ : Sheet
+  T′ = sheetOf L start
+
+  abbrev V′ : ℕ
+  V′ = length (T′ .edges)
+
+  abbrev N′ : ℕ
+  N′ = length (T′ .triangles)
+
+  -- a writer's file of the slices is the file of the sheet's words
+  same-file : fileBytes (contentOf (L .size) V′ N′ (over (vertexWords L T′) old) (over (triangleWords T′) old′))
+      ≡ fileBytes (contentOf (L .size) V′ N′ (vertexWords L T′) (triangleWords T′))
+  same-file =
+      let a = take-append-le (4 * V′) (vertexWords L T′) (drop (length (vertexWords L T′)) old) (omega (arith, vertex-words-length L T′)) in
+      let b = take-append-le (3 * N′) (triangleWords T′) (drop (length (triangleWords T′)) old′) (omega (arith, triangle-words-length T′)) in
+      λ j. fileBytes (record { sizes = L .size; vertices = V′; triangles = N′; vertexWords = a j; triangleWords = b j })
+
+  -- which a reader gets back
+  reads-back : writeVerdict (L .size) V′ N′ (over (vertexWords L T′) old) (over (triangleWords T′) old′) room .number ≡ 0
+      → Holds (fileBytes (contentOf (L .size) V′ N′ (vertexWords L T′) (triangleWords T′))) (L .size) V′ N′ (take (4 * V′) (vertexWords L T′)) (take (3 * N′) (triangleWords T′))
+  reads-back e =
+      let t = taken (L .size) V′ N′ (over (vertexWords L T′) old) (over (triangleWords T′) old′) room e in
+      let u : Taken (L .size) V′ N′ (vertexWords L T′) (triangleWords T′) room =
+      record {
+        sized = t .sized;
+        counts = record {
+          most-v = t .counts .most-v;
+          most-t = t .counts .most-t;
+          room-v = omega (arith, vertex-words-length L T′);
+          room-t = omega (arith, triangle-words-length T′);
+        };
+        good = first-same V′ N′ (over (triangleWords T′) old′) (triangleWords T′)
+            (λ i h. sym (List·getD-append (triangleWords T′) (drop (length (triangleWords T′)) old′) 0 i (omega (arith, triangle-words-length T′)))) (t .good);
+        roomy = t .roomy;
+      } in
+      written (L .size) V′ N′ (vertexWords L T′) (triangleWords T′) room (words-fit L sz start)
+      (ap (λ (v : Verdict). v .number) (taken-verdict (L .size) V′ N′ (vertexWords L T′) (triangleWords T′) room u))
+
+whole : {A : Type 0} (l : List A) (n : ℕ) → length l ≡ n → take n l ≡ l
+whole [] zero e = refl
+whole [] (suc n) e = refl
+whole (x ∷ l) zero e = absurd (omega arith)
+whole (x ∷ l) (suc n) e = ap (λ (m : List _). x ∷ m) (whole l n (omega arith))
+
+-- what a build and then a write make is accepted, with any work slices that are long enough
+pub built-accepted : {L : Lattice} {s : Start} {before : Lent} {r : Built} {after : Lent} {bytes bytes′ : List ℕ} {w : Wrote}
+    → Builds L s before r after → r .number ≡ 0
+    → Writes (L .size) (r .vertices) (r .triangles) (after .vertices) (after .triangles) bytes w bytes′ → w .number ≡ 0
+    → (words waiting slots : ℕ) → judge (sampleTests L s words waiting slots) .number ≡ 0
+    → checked L s (take (w .bytes) bytes′) words waiting slots .number ≡ 0
+built-accepted {L} {s} {before} {r} {after} {bytes} {bytes′} {w} b e write f words waiting slots h =
+    let start = startOf L s in
+    let S = sheetOf L start in
+    let t = sample-tests L s words waiting slots h in
+    let m = made b e in
+    let d = written-bytes write f in
+    let nv = length (S .edges) in
+    let nt = length (S .triangles) in
+    let p : writeVerdict (L .size) nv nt (over (vertexWords L S) (before .vertices)) (over (triangleWords S) (before .triangles)) (length bytes) .number ≡ 0 =
+    sym (λ j. writeVerdict (L .size) (m .vertices j) (m .triangles j) (m .vertex-words j) (m .triangle-words j) (length bytes) .number) ∙ d .passed in
+    let q = reads-back L (t .sizes) start (before .vertices) (before .triangles) (length bytes) p in
+    let same = d .bytes ∙ ((λ j. fileBytes (contentOf (L .size) (m .vertices j) (m .triangles j) (m .vertex-words j) (m .triangle-words j))) ∙ same-file L (t .sizes) start (before .vertices) (before .triangles) (length bytes)) in
+    let file = fileBytes (contentOf (L .size) nv nt (vertexWords L S) (triangleWords S)) in
+    let k : Holds file (L .size) nv nt (vertexWords L S) (triangleWords S) =
+    subst (λ (x : List ℤ). Holds file (L .size) nv nt x (triangleWords S)) (whole (vertexWords L S) (4 * nv) (vertex-words-length L S))
+    (subst (λ (y : List ℕ). Holds file (L .size) nv nt (take (4 * nv) (vertexWords L S)) y) (whole (triangleWords S) (3 * nt) (triangle-words-length S)) q) in
+    subst (λ (x : List ℕ). checked L s x words waiting slots .number ≡ 0) (sym same)
+    (accepted-exactly L s file words waiting slots .always
+    (record { samples = h; file = ap (λ (v : Verdict). v .number) (k .passes); sizes = k .sizes; holds = holding L (t .sizes) start file k }))

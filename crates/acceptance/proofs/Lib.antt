@@ -1,0 +1,5 @@
+-- Theorems of acceptance.
+pub mod Agreement
+pub mod Alike
+pub mod Exact
+pub mod Built
