@@ -1,12 +1,12 @@
 -- `lister::list` meets its contract: a refusal stores nothing, and bytes that pass are read whole and meshed. Assumes nothing.
 use mathlib.Core.Path.{_≡_, sym, ap, _∙_}
-use Prim.Native.Nat.{ℕ, _≤_}
+use Prim.Native.Nat.{_≤_}
 use native.Mathlib.Omega.{arith}
 use denote.Ref.{now}
 use lib.ListN.{length, take}
 use lib.Seq.{length-take-le}
 use Rattle.paper.specs.Lattice.{samples}
-use Rattle.lister.specs.Listing.{listedSizes, listingNumber}
+use Rattle.lister.specs.Listing.{listedSizes}
 use Rattle.lister.proofs.Passing.{Readable, readable}
 use Rattle.lister.proofs.Answers.{samples-are, list-refused, list-done}
 use borrow.Author.Needs.{needs}

@@ -1,5 +1,5 @@
 -- `printer::listing` is safe and ends: a sheet that is not refused lies within its room. Assumes nothing.
-use mathlib.Core.Path.{_≡_, sym, subst, ap, _∙_}
+use mathlib.Core.Path.{sym, subst, ap, _∙_}
 use native.Mathlib.Omega.{arith}
 use Rattle.paper.specs.declared.Built.{Built}
 use Rattle.lister.proofs.Fits.{Fits, listing-fits}
