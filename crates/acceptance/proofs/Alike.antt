@@ -1,16 +1,15 @@
 -- Things along a run and things of a list, under a test that tells which are alike: where no two of the list are alike, each is as often
 -- on either side exactly when each of the run is alike to one of the list, each of the list to one of the run, and no two of the run
 -- are alike. Assumes nothing.
-use mathlib.Core.Path.{_≡_, refl, sym, ap, subst, _∙_}
-use mathlib.Core.Bool.{Bool, true, false}
+use mathlib.Core.Path.{_≡_, refl, sym, ap, _∙_}
+use mathlib.Core.Bool.{Bool}
 use mathlib.Core.List.{List, map, List·Memᴰ as In}
 use Prim.Native.Nat.{ℕ, zero, suc, _≤_, _<_}
 use native.Mathlib.Omega.{arith}
-use native.Mathlib.Decide.{ℕ-discrete, decLt}
 use lib.Dec.{T}
 use Rattle.lists.specs.Lists.{range, any}
 use Rattle.pairing.specs.Pairing.{count}
-use Rattle.pairing.proofs.Count.{pick, any-at, at-any, count-map, in-map, map-in, range-unique}
+use Rattle.pairing.proofs.Count.{pick, any-at, at-any, count-map, range-unique}
 use Rattle.checker.proofs.Counting.{few, count-some, count-one}
 use Rattle.checker.proofs.Complete.{by-order, below, earlier}
 

@@ -2,31 +2,29 @@
 use mathlib.Core.Path.{_≡_, refl, sym, ap, subst, _∙_}
 use mathlib.Core.Bool.{Bool, true, false, cond}
 use mathlib.Core.List.{List, [], _∷_, _++_, map}
-use Prim.Native.Nat.{ℕ, zero, suc, _+_, _*_, _/_, _%_, _≤_, _<_}
+use Prim.Native.Nat.{ℕ, zero, suc, _+_, _*_, _/_, _%_, _<_}
 use native.Mathlib.Omega.{arith}
 use lib.IntN.{ℤ, pos, natAbs}
-use lib.Dec.{T, eqb}
-use lib.ListN.{length, getD, take, drop, List·getD-append, length-map, length-append}
+use lib.Dec.{T}
+use lib.ListN.{length, getD, take, drop, List·getD-append, length-map}
 use lib.Seq.{take-append-seam, take-append-le, drop-append-add, ext-getD}
-use borrow.Author.Tests.{eqb-true}
 use mir.Syntax.{w32}
 use mir.Val.{SFits}
 use Rattle.lists.specs.Lists.{range, each, over, isIn}
-use Rattle.lists.proofs.Every.{All, all-at, all-getD, all-each, all-weak}
+use Rattle.lists.proofs.Every.{All, all-at, all-getD, all-each}
 use Rattle.lists.proofs.Runs.{length-along, at-along, getD-map-lt}
-use Rattle.paper.specs.declared.Sizes.{Sizes}
 use Rattle.paper.specs.declared.Place.{Place}
 use Rattle.paper.specs.declared.Start.{Start}
 use Rattle.paper.specs.declared.Verdict.{Verdict}
 use Rattle.paper.specs.declared.Built.{Built}
 use Rattle.paper.specs.declared.Wrote.{Wrote}
-use Rattle.paper.specs.Lattice.{Lattice, samples, cubes, sampleAt, airAt, corner}
+use Rattle.paper.specs.Lattice.{Lattice, samples, sampleAt, airAt, corner}
 use Rattle.paper.specs.Tables.{Tri, tri, ends, kinds}
-use Rattle.paper.specs.Sheet.{Sheet, sheetOf, recordAt, vertexRecord, vertexWords, corners3, triangleWords}
+use Rattle.paper.specs.Sheet.{Sheet, sheetOf, recordAt, vertexRecord, vertexWords, triangleWords}
 use Rattle.paper.specs.Within.{Sized}
 use Rattle.paper.specs.Tests.{verdict, judge}
 use Rattle.paper.specs.Build.{Lent, startOf, sampleTests, buildNumber, counted, uncounted, built, outputAfter, lentAfter, Builds}
-use Rattle.paper.specs.File.{contentOf, fileBytes, writeVerdict, Writes, fileV, fileT, fileVertices, fileTriangles}
+use Rattle.paper.specs.File.{contentOf, fileBytes, writeVerdict, Writes, fileT}
 use Rattle.paper.specs.Check.{recordOf, edgeOf, cornerOf, triangleOf, sameNumbers, turned, checked}
 use Rattle.paper.proofs.Listing.{Below, named, edges-lt, sheet-positioned, indices-below, indices-name, vertex-words-length, triangle-words-length}
 use Rattle.paper.proofs.Crossing.{Positioned}
@@ -42,7 +40,7 @@ use Rattle.sheetfile.specs.Trips.{Holds}
 use Rattle.sheetfile.proofs.Answers.{taken, taken-verdict}
 use Rattle.sheetfile.proofs.Written.{written}
 use Rattle.sheetfile.proofs.RoundTrips.{written-bytes}
-use Rattle.acceptance.specs.Holding.{fileRecords, fileTriples, sheetRecords, Holding, Acceptable}
+use Rattle.acceptance.specs.Holding.{fileRecords, fileTriples, sheetRecords, Holding}
 use Rattle.acceptance.proofs.Exact.{numbers-same, accepted-exactly}
 
 -- ── lists ──

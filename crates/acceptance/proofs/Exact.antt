@@ -1,12 +1,12 @@
 -- A check answers 0 exactly when sizes, start, work room and layout pass and the file holds the sheet. Assumes nothing.
 use mathlib.Core.Path.{_≡_, refl, sym, ap, subst, _∙_}
-use mathlib.Core.Bool.{Bool, true, false, cond, not, _&&_, _||_}
+use mathlib.Core.Bool.{Bool, true, false, not, _&&_, _||_}
 use mathlib.Core.List.{List, [], _∷_, _++_, map, List·Memᴰ as In}
 use Prim.Native.Nat.{ℕ, _+_, _≤_, _<_}
 use native.Mathlib.Omega.{arith}
 use lib.IntN.{ℤ, pos, natAbs}
 use lib.Dec.{T, eqb, T-not, not-T}
-use lib.ListN.{length, getD}
+use lib.ListN.{getD}
 use borrow.Author.Tests.{eq-eqb, eqb-true}
 use Rattle.lists.specs.Lists.{range, any, first}
 use Rattle.lists.proofs.Member.{T→eq, eq→T, and-both}
@@ -19,7 +19,7 @@ use Rattle.paper.specs.Lattice.{Lattice, cubes}
 use Rattle.paper.specs.Tables.{Tri}
 use Rattle.paper.specs.Sheet.{Sheet, sheetOf, vertexRecord}
 use Rattle.paper.specs.Within.{Sized}
-use Rattle.paper.specs.Tests.{Test, verdict, judge}
+use Rattle.paper.specs.Tests.{Test, judge}
 use Rattle.paper.specs.Build.{startOf, sampleTests}
 use Rattle.paper.specs.File.{fileV, fileT, fileSizes, fileVertices, fileTriangles, fileTests}
 use Rattle.paper.specs.Check.{sameNumber, sameNumbers, sameSizes, turned, recordOf, edgeOf, badRecord, triangleOf, badNaming, complete, sheetTests, checked}
@@ -35,7 +35,7 @@ use Rattle.records.proofs.Meaning.{first-number, record-edge}
 use Rattle.checker.proofs.Counting.{few, count-some}
 use Rattle.checker.proofs.Complete.{refuted, distinct-edges, below, earlier, one-alike}
 use Rattle.checker.proofs.Verdicts.{sample-numbered}
-use Rattle.acceptance.specs.Holding.{fileRecords, fileTriples, sheetRecords, Holding, Acceptable, Exactly, EachOnce}
+use Rattle.acceptance.specs.Holding.{fileRecords, fileTriples, sheetRecords, Acceptable, Exactly, EachOnce}
 use Rattle.acceptance.proofs.Alike.{Matching, often, matching}
 
 -- ── tests ──

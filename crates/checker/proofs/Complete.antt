@@ -1,25 +1,24 @@
 -- Where tests 17 and 18 are passed, test 19 compares counts. Assumes nothing.
 use mathlib.Core.Path.{_≡_, refl, sym, ap, subst, _∙_}
-use mathlib.Core.Bool.{Bool, true, false, cond, not, _&&_, _||_}
-use mathlib.Core.List.{List, [], _∷_, List·Memᴰ as In, List·Memᴰ·head as here, List·Memᴰ·tail as there}
-use Prim.Native.Nat.{ℕ, zero, suc, _+_, _≤_, _<_}
+use mathlib.Core.Bool.{Bool, true, false, not, _&&_, _||_}
+use mathlib.Core.List.{List, [], _∷_, List·Memᴰ as In, List·Memᴰ·head as here}
+use Prim.Native.Nat.{ℕ, zero, suc, _≤_, _<_}
 use native.Mathlib.Omega.{arith}
 use native.Mathlib.Decide.{ℕ-discrete, decLt}
 use lib.IntN.{ℤ, pos}
 use lib.Dec.{T, eqb, eqb-refl}
 use lib.ListN.{length}
-use borrow.Author.Tests.{eq-eqb, ne-eqb}
 use Rattle.lists.specs.Lists.{range, any, first}
 use Rattle.lists.proofs.Member.{and-both, in-range, range-in}
 use Rattle.lists.proofs.Closure.{length-range}
 use Rattle.paper.specs.Lattice.{Lattice, cubes, visited}
 use Rattle.paper.specs.Tables.{Tri, tri}
-use Rattle.paper.specs.Sheet.{Sheet, vertexRecord, vertexEdges, sheetOf}
+use Rattle.paper.specs.Sheet.{vertexRecord, vertexEdges, sheetOf}
 use Rattle.paper.specs.Within.{Sized}
 use Rattle.paper.specs.Check.{sameNumber, sameNumbers, turned, recordOf, edgeOf, badRecord, triangleOf, badNaming, complete}
 use Rattle.paper.proofs.Listing.{edges-rising}
-use Rattle.pairing.specs.Pairing.{count, Arrow, arrow, around, isArrow, times, outer, Paired}
-use Rattle.pairing.proofs.Count.{eqb-of, list-in, in-list, any-at, at-any, count-step, count-each, count-unique, rising-unique, range-unique, sum, Unique}
+use Rattle.pairing.specs.Pairing.{count, Arrow, arrow, around, isArrow, times}
+use Rattle.pairing.proofs.Count.{list-in, in-list, any-at, at-any, count-each, count-unique, rising-unique, range-unique, sum, Unique}
 use Rattle.pairing.proofs.Sheets.{by-edge}
 use Rattle.pairing.proofs.Turned.{Turned, is-turned, turned-is, back, along, hit, hit-turned}
 use Rattle.records.proofs.Numbers.{same-number, number-same}

@@ -8,7 +8,7 @@ use native.Mathlib.Omega.{arith}
 use lib.Dec.{T, eqb, eqb→eq, T-not, not-T}
 use lib.ListN.{length}
 use Rattle.lists.specs.Lists.{any}
-use Rattle.lists.proofs.Member.{T→eq, eq→T}
+use Rattle.lists.proofs.Member.{eq→T}
 use Rattle.lists.proofs.Closure.{bool-same}
 use Rattle.pairing.specs.Pairing.{count}
 use Rattle.pairing.proofs.Count.{eqb-of, count-step, pick, sum, Unique, none, more, any-at, at-any}

@@ -6,22 +6,22 @@ use mathlib.Core.List.{List, [], _∷_, _++_, map}
 use Prim.Native.Nat.{ℕ, zero, suc, _+_, _*_, _/_, _%_, _≤_, _<_}
 use native.Mathlib.Omega.{arith}
 use native.Mathlib.Decide.{ℕ-discrete}
-use lib.Dec.{T, eqb, ltb, ltb→lt, eqb→eq, eqb-refl}
+use lib.Dec.{T, eqb, ltb, ltb→lt, eqb-refl}
 use lib.ListN.{length, getD, set, drop, replicate, List·getD-append, length-set, length-append, length-replicate, length-drop}
 use lib.Seq.{getD-set-same, getD-set-other, drop-append-seam, drop-set-lt}
 use borrow.Author.Tests.{eq-eqb, ne-eqb}
 use Rattle.lists.specs.Lists.{range, consIf, keep, any, each, isIn, cleared}
 use Rattle.lists.specs.Reach.{here, step}
-use Rattle.lists.proofs.Member.{T→eq, eq→T, or-cases, or-left, or-right, and-both, and-left, and-right, any-each, any-in, in-any, in-keep, in-range, range-in}
+use Rattle.lists.proofs.Member.{T→eq, eq→T, or-left, or-right, and-both, and-left, and-right, any-each, any-in, in-any, in-keep, in-range, range-in}
 use Rattle.lists.proofs.Every.{All, all-in, in-all, each-same}
 use Rattle.lists.proofs.Closure.{bool-same, keep-same, marks-are}
 use Rattle.lists.proofs.Runs.{length-along, at-along}
 use Rattle.paper.specs.declared.Sizes.{Sizes}
 use Rattle.paper.specs.declared.Place.{Place}
-use Rattle.paper.specs.Lattice.{Lattice, samples, sampleNo, sampleAt, airAt, corner, cubes, cubeAt, steps, visited}
+use Rattle.paper.specs.Lattice.{Lattice, sampleNo, sampleAt, airAt, corner, cubes, cubeAt, steps, visited}
 use Rattle.paper.specs.Tables.{Ends, ends, kinds}
 use Rattle.paper.specs.Sheet.{edgeNo, split, cubeEdges, vertexEdges, cubeTriangles, sheetOf}
-use Rattle.paper.specs.Within.{Sized, Full, SampleIn, CubeIn}
+use Rattle.paper.specs.Within.{Sized, SampleIn, CubeIn}
 use Rattle.paper.specs.Build.{needed, neededSlots}
 use Rattle.paper.specs.Check.{Work}
 use Rattle.paper.proofs.Numbers.{cube-inside, corner-inside}
@@ -36,7 +36,6 @@ use Rattle.tetra.specs.Cut.{trianglesBy, localSplit, localStep, localSteps, edg
 use Rattle.tetra.proofs.Laws.{cube-triangles-by, cube-edges-by}
 use Rattle.flood.specs.Flooded.{wordOf, wordsOf}
 use Rattle.survey.specs.Marks.{marks, used, usedOf, numberIn, baseOf, edgesFrom, edgesWord, edgesIn, edgesUpto, trianglesIn, trianglesUpto}
-use Rattle.survey.proofs.Laws.{marks-length}
 use Rattle.records.specs.Records.{Crossing}
 use Rattle.triples.specs.Triples.{Small}
 use Rattle.checker.specs.declared.Counts.{Counts}
@@ -255,10 +254,6 @@ module _ (L : Lattice) (start : ℕ) (s : Sized (L .size)) (h : start < cubes (L
 
   abbrev m : List ℕ
   m = marked L (after .words) (before .slots)
-
-  m-long : length m ≡ length (before .slots)
-  unfolding marked
-  m-long = marks-length (edgesUpto (L .size) (after .words) (cubes (L .size))) (cleared n (before .slots)) ∙ cleared-length n (before .slots) (room .slots)
 
   -- a needed slot is marked where its edge is the sheet's
   m-used : (e : ℕ) → e < n → used m e ≡ isIn (each (cubeEdges L) vs) e

@@ -1,6 +1,6 @@
 -- What the parts of a check leave and answer. Assumes nothing.
 use mathlib.Core.Path.{_≡_}
-use mathlib.Core.Bool.{Bool, _&&_}
+use mathlib.Core.Bool.{_&&_}
 use mathlib.Core.List.{List, [], _∷_, _++_, map}
 use Prim.Native.Nat.{ℕ, _≤_}
 use lib.Dec.{eqb}
@@ -11,7 +11,7 @@ use Rattle.paper.specs.declared.Verdict.{Verdict}
 use Rattle.paper.specs.Lattice.{Lattice, cubes, visited}
 use Rattle.paper.specs.Within.{Full}
 use Rattle.paper.specs.Tests.{Test, test, testAt, judge}
-use Rattle.paper.specs.Sheet.{Sheet, sheetOf}
+use Rattle.paper.specs.Sheet.{sheetOf}
 use Rattle.paper.specs.Build.{needed, neededSlots}
 use Rattle.paper.specs.File.{fileV, fileT, fileVertices, fileTriangles}
 use Rattle.paper.specs.Check.{Work, work, sheetTests}

@@ -1,7 +1,7 @@
 -- The first that passes: what comes before it, that it passes, and when two tests have the same first. Assumes nothing.
 use mathlib.Core.Path.{_≡_, refl, sym, ap, subst, _∙_}
 use mathlib.Core.Bool.{Bool, true, false, cond}
-use Prim.Native.Nat.{ℕ, zero, suc, _+_, _≤_, _<_}
+use Prim.Native.Nat.{ℕ, zero, suc, _+_, _<_}
 use native.Mathlib.Omega.{arith}
 use native.Mathlib.Nat.{zero-add}
 use lib.Arith.{lt-of-le-ne}
@@ -38,18 +38,6 @@ first-holds p d i (suc n) h = go (p i) refl h (λ g. first-holds p d (suc i) n g
         → (first p d (range (suc i) n) < d → p (first p d (range (suc i) n)) ≡ true) → p (cond b i (first p d (range (suc i) n))) ≡ true
     go true q h f = q
     go false q h f = f h
-
--- it is at most the end of the run
-first-le-from : (p : ℕ → Bool) (d i n : ℕ) → i + n ≡ d → first p d (range i n) ≤ d
-first-le-from p d i zero e = omega arith
-first-le-from p d i (suc n) e = go (p i) (first-le-from p d (suc i) n (omega arith))
-  where
-    go : (b : Bool) → first p d (range (suc i) n) ≤ d → cond b i (first p d (range (suc i) n)) ≤ d
-    go true h = omega arith
-    go false h = h
-
-pub first-le : (p : ℕ → Bool) (n : ℕ) → first p n (range 0 n) ≤ n
-first-le p n = first-le-from p n 0 n (omega arith)
 
 -- two tests that agree at each number before which the first of them passes nowhere
 agree-from : (p q : ℕ → Bool) (d i n : ℕ) → i + n ≡ d → ((j : ℕ) → j < d → ((k : ℕ) → k < j → p k ≡ false) → p j ≡ q j) → ((k : ℕ) → k < i → p k ≡ false)

@@ -1,10 +1,9 @@
 -- Signed numbers and records that are the same by the test, and the four numbers of a record. Assumes nothing.
 use mathlib.Core.Path.{_≡_, refl, sym, ap, subst, _∙_}
-use mathlib.Core.Bool.{Bool, true, false, cond, _&&_}
+use mathlib.Core.Bool.{Bool, true, false, cond}
 use mathlib.Core.List.{List, [], _∷_}
 use Prim.Native.Nat.{ℕ, suc, _+_, _*_, _≤_, _<_}
 use native.Mathlib.Omega.{arith}
-use native.Mathlib.Nat.{add-zero}
 use lib.IntN.{ℤ, pos, negsuc, natAbs}
 use lib.Signed.{ltZ, nonNeg}
 use lib.Dec.{T, eqb, ltb, eqb→eq, eqb-refl}
@@ -14,7 +13,7 @@ use borrow.Author.Tests.{lt-ltb, le-ltb, ltb-true}
 use mir.Syntax.{Width}
 use mir.Val.{SFits, toZ, ofZ}
 use mir.Facts.{toZ-ofZ}
-use Rattle.lists.proofs.Member.{and-left, and-right, and-both}
+use Rattle.lists.proofs.Member.{and-left, and-right}
 use Rattle.lists.proofs.Closure.{bool-same}
 use Rattle.paper.specs.Check.{sameNumber, sameNumbers, recordOf}
 use Rattle.records.specs.Records.{edgeIn}

@@ -1,12 +1,12 @@
 -- A file's vertex records against the slots of the sheet's vertices. Assumes nothing.
 use mathlib.Core.Bool.{Bool, cond, not, _&&_}
 use mathlib.Core.List.{List, [], _∷_, map}
-use Prim.Native.Nat.{ℕ, _*_, _/_, _%_, _≤_, _<_}
-use lib.IntN.{ℤ, pos, negsuc, natAbs}
+use Prim.Native.Nat.{ℕ, _/_, _%_, _<_}
+use lib.IntN.{ℤ, pos, negsuc}
 use lib.Dec.{T, ltb}
-use lib.ListN.{length, set}
+use lib.ListN.{set}
 use Rattle.lists.specs.Lists.{range, first}
-use Rattle.paper.specs.Lattice.{Lattice, samples, sampleAt}
+use Rattle.paper.specs.Lattice.{Lattice, sampleAt}
 use Rattle.paper.specs.Sheet.{vertexRecord}
 use Rattle.paper.specs.Build.{neededSlots}
 use Rattle.paper.specs.Check.{sameNumbers, recordOf, edgeOf}

@@ -1,8 +1,8 @@
 -- One triangle after the other: its cube, its place there, and the bits. Assumes nothing.
-use mathlib.Core.Path.{_≡_, refl, sym, ap, subst, _∙_}
+use mathlib.Core.Path.{_≡_, refl, sym, ap, _∙_}
 use mathlib.Core.Bool.{Bool, true, false, cond, not, _&&_, and-false}
-use mathlib.Core.List.{List, []}
-use Prim.Native.Nat.{ℕ, zero, suc, _+_, _-_, _*_, _/_, _%_, _^_, min, _≤_, _<_}
+use mathlib.Core.List.{List}
+use Prim.Native.Nat.{ℕ, zero, suc, _+_, _-_, _*_, _/_, _%_, _^_, _≤_, _<_}
 use native.Mathlib.Nat.{mul-le-mul, mul-comm, pow-suc, div-div-eq-div-mul}
 use native.Mathlib.Decide.{ℕ-discrete}
 use native.Mathlib.Numerals.{add-one}
@@ -12,14 +12,12 @@ use lib.Dec.{T, eqb, ltb, eqb→eq, ltb→lt}
 use lib.ListN.{length, getD, set, length-set}
 use lib.Seq.{getD-set-same, getD-set-other}
 use borrow.Author.Tests.{eq-eqb, ne-eqb, lt-ltb, le-ltb, ltb-true, eqb-true}
-use Rattle.lists.specs.Lists.{range, first}
-use Rattle.lists.proofs.Member.{T→eq, eq→T}
+use Rattle.lists.specs.Lists.{first}
 use Rattle.lists.proofs.Runs.{first-at, first-none}
 use Rattle.lists.proofs.Computed.{upto, upto-at}
 use Rattle.paper.specs.declared.Sizes.{Sizes}
 use Rattle.paper.specs.Lattice.{cubes}
 use Rattle.paper.specs.Tables.{Tri, tri}
-use Rattle.paper.specs.Within.{Sized}
 use Rattle.paper.specs.Check.{triangleOf}
 use Rattle.paper.proofs.Judged.{both}
 use Rattle.sides.specs.Pattern.{bitOf}

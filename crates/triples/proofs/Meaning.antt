@@ -1,6 +1,5 @@
 -- A triangle that fails here is one that fails test 18. Assumes nothing.
 use mathlib.Core.Path.{_≡_, refl, sym, ap, subst, _∙_}
-use mathlib.Core.Logic.{inl, inr}
 use mathlib.Core.Bool.{Bool, true, false, cond, not, _&&_, _||_, or-false}
 use mathlib.Core.List.{List, [], _∷_, _++_, map}
 use Prim.Native.Nat.{ℕ, zero, suc, _+_, _*_, _/_, _%_, _^_, _≤_, _<_}
@@ -8,17 +7,17 @@ use native.Mathlib.Nat.{zero-add, zero-div}
 use native.Mathlib.Omega.{arith}
 use native.Mathlib.Decide.{ℕ-discrete}
 use lib.IntN.{ℤ}
-use lib.Dec.{T, eqb, ltb, eqb→eq, eqb-refl, lt→ltb, ltb→lt}
+use lib.Dec.{T, eqb, ltb, eqb→eq, lt→ltb, ltb→lt}
 use lib.ListN.{length, getD, set, drop, length-map}
 use lib.Seq.{getD-set-same, getD-set-other, drop-set-lt}
-use borrow.Author.Tests.{eq-eqb, ne-eqb, lt-ltb, le-ltb, ltb-true, ltb-false, eqb-true, not-false}
+use borrow.Author.Tests.{eq-eqb, ne-eqb, ltb-true, ltb-false, not-false}
 use Rattle.lists.specs.Lists.{range, any, each, isIn, first}
-use Rattle.lists.proofs.Member.{T→eq, eq→T, or-cases, or-left, or-right, and-both, and-left, and-right, any-append, any-each, any-in, in-any, in-range, range-in}
+use Rattle.lists.proofs.Member.{T→eq, eq→T, and-both, and-left, and-right, any-append, any-each, any-in, in-any, in-range, range-in}
 use Rattle.lists.proofs.Every.{any-at, at-any}
 use Rattle.lists.proofs.Closure.{bool-same}
 use Rattle.lists.proofs.Runs.{range-snoc, any-first}
 use Rattle.paper.specs.declared.Sizes.{Sizes}
-use Rattle.paper.specs.Lattice.{Lattice, sampleNo, cubes, cubeNo, cubeAt, visited}
+use Rattle.paper.specs.Lattice.{Lattice, cubes, cubeNo, cubeAt, visited}
 use Rattle.paper.specs.Tables.{Tri, tri, rows}
 use Rattle.paper.specs.Sheet.{Sheet, sheetOf, cubeTriangles}
 use Rattle.paper.specs.Within.{Sized}
@@ -26,7 +25,7 @@ use Rattle.paper.specs.Check.{turned, triangleOf, badNaming}
 use Rattle.paper.proofs.Visits.{visited-lt}
 use Rattle.paper.proofs.Edges.{anchorOf, cubeOf}
 use Rattle.paper.proofs.Finding.{turned-cube, in-sheet}
-use Rattle.pairing.proofs.Turned.{Turned, is-turned, turned-is, back, along}
+use Rattle.pairing.proofs.Turned.{is-turned, turned-is, back, along}
 use Rattle.sides.specs.Pattern.{bitOf, patternAt}
 use Rattle.sides.proofs.Laws.{pattern-lt}
 use Rattle.tetra.specs.Cut.{rowBy, rowCount, rowTriangles, trianglesBy}

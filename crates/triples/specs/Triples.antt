@@ -1,16 +1,14 @@
 -- A file's triangles, named by edges, against the triangles of the visited cubes. Assumes nothing.
 use mathlib.Core.Bool.{Bool, cond, not, _&&_}
 use mathlib.Core.List.{List}
-use Prim.Native.Nat.{ℕ, zero, suc, _+_, _*_, _/_, _%_, _^_, min, _≤_, _<_}
+use Prim.Native.Nat.{ℕ, zero, suc, _+_, _/_, _%_, _^_, min, _<_}
 use lib.IntN.{ℤ}
 use lib.Dec.{eqb, ltb}
-use lib.ListN.{length, getD, set}
+use lib.ListN.{getD, set}
 use Rattle.lists.specs.Lists.{range, first}
 use Rattle.paper.specs.declared.Sizes.{Sizes}
-use Rattle.paper.specs.declared.Place.{Place}
 use Rattle.paper.specs.Lattice.{place, sampleAt, cubes, cubeNo}
 use Rattle.paper.specs.Tables.{Tri, tri}
-use Rattle.paper.specs.Build.{neededSlots}
 use Rattle.paper.specs.Check.{turned, edgeOf, triangleOf}
 use Rattle.sides.specs.Pattern.{bitOf}
 use Rattle.tetra.specs.Cut.{rowBy, rowCount, rowTriangles}

@@ -1,19 +1,18 @@
 -- Test by test, and the last three on work slices that are then cleared. Assumes nothing.
-use mathlib.Core.Path.{_≡_, refl, sym, ap, subst, _∙_}
-use mathlib.Core.Bool.{Bool, true, false}
+use mathlib.Core.Path.{_≡_, refl, sym, ap, _∙_}
+use mathlib.Core.Bool.{true, false}
 use mathlib.Core.List.{List}
-use Prim.Native.Nat.{ℕ, _≤_}
+use Prim.Native.Nat.{ℕ}
 use native.Mathlib.Omega.{arith}
 use lib.ListN.{length}
 use borrow.Author.Tests.{not-true, not-false}
 use denote.Ref.{now}
 use Rattle.paper.specs.declared.Verdict.{Verdict}
-use Rattle.paper.specs.Lattice.{Lattice, lattice, cubes}
-use Rattle.paper.specs.Tests.{verdict, judge}
+use Rattle.paper.specs.Lattice.{Lattice, lattice}
+use Rattle.paper.specs.Tests.{judge}
 use Rattle.paper.specs.Build.{startOf, sampleTests}
 use Rattle.paper.specs.File.{fileSizes, fileTests}
 use Rattle.paper.specs.Check.{Work, work, sameSizes}
-use Rattle.layout.specs.Laid.{LaidOut}
 use Rattle.layout.proofs.Passing.{laid-out}
 use Rattle.ready.specs.Ready.{Begins}
 use Rattle.checker.specs.Checked.{lastTests}

@@ -1,5 +1,5 @@
 -- One slice after the other. Assumes nothing.
-use mathlib.Core.Path.{_≡_, ap, _∙_}
+use mathlib.Core.Path.{ap, _∙_}
 use Prim.Native.Nat.{ℕ, _*_}
 use denote.Ref.{now}
 use Rattle.lists.specs.Lists.{cleared}

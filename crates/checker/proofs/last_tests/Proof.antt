@@ -1,13 +1,10 @@
 -- The sheet is made known, the file compared with it, and the work slices cleared. Assumes nothing.
-use mathlib.Core.Path.{_≡_, refl, sym, ap, subst, _∙_}
-use mathlib.Core.List.{List}
-use Prim.Native.Nat.{ℕ, _≤_}
+use mathlib.Core.Path.{_∙_}
 use native.Mathlib.Omega.{arith}
 use denote.Ref.{now}
 use Rattle.paper.specs.Lattice.{Lattice, lattice}
 use Rattle.paper.specs.Build.{needed, neededSlots}
 use Rattle.paper.specs.Check.{Work, work}
-use Rattle.checker.specs.Checked.{Roomy, clean}
 use Rattle.checker.proofs.Answers.{cleared-again}
 use Rattle.checker.proofs.Known.{crossing, small, long, words-rest, waiting-rest, slots-rest}
 use Rattle.checker.proofs.Verdicts.{same-answer}

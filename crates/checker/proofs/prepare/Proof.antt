@@ -1,12 +1,11 @@
 -- The flood's words, cleared slices, and the survey's marks and numbers. Assumes nothing.
-use mathlib.Core.Path.{_≡_, refl, sym, ap, _∙_}
-use mathlib.Core.List.{List, _++_, map}
+use mathlib.Core.Path.{ap, _∙_}
+use mathlib.Core.List.{_++_, map}
 use Prim.Native.Nat.{ℕ, _*_}
 use lib.ListN.{length, drop}
 use denote.Ref.{now}
 use Rattle.lists.specs.Lists.{range, cleared}
-use Rattle.paper.specs.Lattice.{lattice, cubes}
-use Rattle.paper.specs.Build.{neededSlots}
+use Rattle.paper.specs.Lattice.{cubes}
 use Rattle.survey.specs.Marks.{marks, usedOf, numberIn, edgesUpto}
 use Rattle.checker.specs.Checked.{marked}
 use Rattle.checker.proofs.Answers.{beyond-cleared}

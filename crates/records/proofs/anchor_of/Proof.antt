@@ -1,5 +1,5 @@
 -- The three digits of the anchor's number. Assumes nothing.
-use mathlib.Core.Path.{_≡_, refl, sym, subst, ap}
+use mathlib.Core.Path.{_≡_, sym, subst, ap}
 use native.Mathlib.Nat.{div-div-eq-div-mul}
 use Prim.Native.Nat.{ℕ, _*_, _%_, _/_, _<_}
 use native.Mathlib.Omega.{arith}

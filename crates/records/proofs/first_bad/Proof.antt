@@ -1,19 +1,17 @@
 -- Each record before i is good, and the slots of their edges are 0. Assumes nothing.
-use mathlib.Core.Path.{_≡_, refl, sym, ap, subst, _∙_}
-use mathlib.Core.Bool.{Bool, true, false}
+use mathlib.Core.Path.{_≡_, sym, ap, subst, _∙_}
+use mathlib.Core.Bool.{false}
 use mathlib.Core.List.{List}
-use Prim.Native.Nat.{ℕ, _+_, _-_, _*_, _≤_, _<_}
+use Prim.Native.Nat.{ℕ, _-_, _*_, _≤_, _<_}
 use native.Mathlib.Omega.{arith}
 use lib.IntN.{ℤ}
 use lib.ListN.{length, set}
 use denote.Ref.{now}
 use borrow.Author.Count.{below-more}
-use borrow.Author.Needs.{needs}
 use Rattle.paper.specs.Lattice.{Lattice, lattice}
 use Rattle.paper.specs.Build.{neededSlots}
 use Rattle.paper.specs.File.{fileV, fileVertices}
-use Rattle.layout.specs.Laid.{Ranged}
-use Rattle.records.specs.Records.{Crossing, edgeAt, goodEdge, slotsAfter, badIn, firstBadIn}
+use Rattle.records.specs.Records.{Crossing, goodEdge, slotsAfter, badIn}
 use Rattle.records.proofs.Laws.{Found, record-bad, record-good, after-none, after-more, after-length, after-crossing, bad-here, good-here, first-found, first-missing}
 use Rattle.records.proofs.first_bad.Statement.{statement}
 use Rattle.records.proofs.first_bad.Tie as tie

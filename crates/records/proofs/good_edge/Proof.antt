@@ -1,19 +1,19 @@
 -- No edge, an idle slot, another record, or the edge. Assumes nothing.
-use mathlib.Core.Path.{_≡_, refl, sym, ap, subst, _∙_}
-use mathlib.Core.Bool.{Bool, true, false, not}
+use mathlib.Core.Path.{_≡_, sym, ap, subst, _∙_}
+use mathlib.Core.Bool.{true, false, not}
 use mir.Syntax.{w32}
 use mir.Facts.{toZ-ofZ}
 use mathlib.Core.List.{List}
-use Prim.Native.Nat.{ℕ, _+_, _*_, _/_, _%_, _≤_, _<_}
+use Prim.Native.Nat.{ℕ, _+_, _*_, _/_, _%_, _<_}
 use native.Mathlib.Omega.{arith}
-use lib.IntN.{ℤ, pos}
+use lib.IntN.{ℤ}
 use lib.Dec.{T}
 use lib.ListN.{getD}
 use borrow.Author.Tests.{not-true, not-false, ne-eqb}
 use denote.Ref.{now}
 use Rattle.lists.proofs.Member.{eq→T}
 use Rattle.paper.specs.declared.Place.{Place}
-use Rattle.paper.specs.Lattice.{Lattice, lattice, sampleNo, sampleAt}
+use Rattle.paper.specs.Lattice.{Lattice, lattice, sampleNo}
 use Rattle.paper.specs.Sheet.{vertexRecord}
 use Rattle.paper.specs.Build.{neededSlots}
 use Rattle.paper.specs.File.{fileVertices}
@@ -21,7 +21,7 @@ use Rattle.paper.specs.Check.{sameNumbers, recordOf, edgeOf}
 use Rattle.paper.proofs.Numbers.{sample-back}
 use Rattle.crossing.specs.Vertex.{Crosses}
 use Rattle.survey.specs.Marks.{used}
-use Rattle.records.specs.Records.{edgeIn, edgeAt, goodEdge}
+use Rattle.records.specs.Records.{edgeIn, edgeAt}
 use Rattle.records.proofs.Laws.{edge-out, edge-idle, edge-wrong, edge-right}
 use borrow.Author.Needs.{needs}
 use Rattle.records.proofs.good_edge.Statement.{statement}

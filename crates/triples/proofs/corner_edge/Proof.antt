@@ -1,13 +1,12 @@
 -- The index names a record, and the record's edge is among n. Assumes nothing.
-use mathlib.Core.Path.{_≡_, refl, sym, ap, subst, _∙_}
-use Prim.Native.Nat.{ℕ, _*_, _<_}
+use mathlib.Core.Path.{_≡_, sym, ap, subst, _∙_}
+use Prim.Native.Nat.{ℕ, _<_}
 use native.Mathlib.Omega.{arith}
-use lib.IntN.{ℤ, pos, natAbs}
-use lib.ListN.{getD}
+use lib.IntN.{ℤ, natAbs}
 use mir.Syntax.{w32}
 use mir.Facts.{toZ-ofZ}
 use denote.Ref.{now}
-use Rattle.paper.specs.File.{fileV, fileVertices, fileTriangles}
+use Rattle.paper.specs.File.{fileV, fileVertices}
 use Rattle.paper.specs.Check.{edgeOf, cornerOf}
 use Rattle.records.specs.Records.{edgeIn}
 use Rattle.triples.proofs.Laws.{named-is}

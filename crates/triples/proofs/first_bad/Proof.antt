@@ -1,8 +1,8 @@
 -- Each triangle before i is fresh in its turn, and the bits are those after i. Assumes nothing.
-use mathlib.Core.Path.{_≡_, refl, sym, ap, subst, _∙_}
-use mathlib.Core.Bool.{Bool, true, false, cond}
+use mathlib.Core.Path.{_≡_, sym, ap, subst, _∙_}
+use mathlib.Core.Bool.{true, false}
 use mathlib.Core.List.{List}
-use Prim.Native.Nat.{ℕ, _+_, _-_, _*_, _≤_, _<_}
+use Prim.Native.Nat.{ℕ, _-_, _*_, _≤_, _<_}
 use native.Mathlib.Omega.{arith}
 use lib.IntN.{ℤ}
 use lib.ListN.{length}
@@ -17,7 +17,6 @@ use Rattle.paper.specs.Check.{triangleOf}
 use Rattle.tetra.specs.Cut.{triOf}
 use Rattle.triples.specs.Triples.{Named, Among, fresh, noted, Small, seenAfter, badIn}
 use Rattle.triples.proofs.Laws.{is-fresh, noted-small, after-none, after-more, after-length, bad-here, good-here, first-found, first-missing}
-use borrow.Author.Needs.{needs}
 use Rattle.triples.proofs.first_bad.Statement.{statement}
 use Rattle.triples.proofs.first_bad.Tie as tie
 

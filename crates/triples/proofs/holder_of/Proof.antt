@@ -1,6 +1,6 @@
 -- The least coordinates of the three anchors give the cube's number. Assumes nothing.
-use mathlib.Core.Path.{_≡_, refl, sym, ap, _∙_}
-use Prim.Native.Nat.{ℕ, _+_, _-_, _*_, min, _≤_}
+use mathlib.Core.Path.{_∙_}
+use Prim.Native.Nat.{_+_, _-_, _*_, min, _≤_}
 use native.Mathlib.Omega.{arith}
 use Rattle.paper.specs.Lattice.{cubeNo}
 use Rattle.triples.specs.Triples.{holder}

@@ -1,6 +1,5 @@
 -- From each of the three corners. Assumes nothing.
-use mathlib.Core.Path.{_≡_, refl, sym, ap, _∙_}
-use mathlib.Core.Bool.{Bool, true, false, _||_}
+use mathlib.Core.Path.{_≡_, sym, ap, _∙_}
 use Rattle.paper.specs.Tables.{Tri, tri}
 use Rattle.paper.specs.Check.{sameTriangle, turned}
 use Rattle.tetra.specs.Cut.{triOf}

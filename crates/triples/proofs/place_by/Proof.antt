@@ -1,11 +1,11 @@
 -- No place before c is t's. Assumes nothing.
-use mathlib.Core.Path.{_≡_, refl, sym, ap, subst, _∙_}
-use mathlib.Core.Bool.{Bool, true, false}
-use Prim.Native.Nat.{ℕ, _+_, _-_, _≤_, _<_}
+use mathlib.Core.Path.{_≡_, sym, _∙_}
+use mathlib.Core.Bool.{false}
+use Prim.Native.Nat.{ℕ, _-_, _≤_, _<_}
 use native.Mathlib.Omega.{arith}
 use borrow.Author.Count.{below-more}
 use Rattle.tetra.specs.Cut.{triOf}
-use Rattle.triples.specs.Triples.{isAt, placeBy}
+use Rattle.triples.specs.Triples.{isAt}
 use Rattle.triples.proofs.Laws.{place-found, place-missing}
 use borrow.Author.Needs.{needs}
 use Rattle.triples.proofs.place_by.Statement.{statement}

@@ -1,10 +1,10 @@
 -- No cube, no word, or a search in the cube. Assumes nothing.
-use mathlib.Core.Path.{_≡_, refl, sym, ap, _∙_}
-use Prim.Native.Nat.{ℕ, _*_, _%_, _≤_, _<_}
+use mathlib.Core.Path.{_≡_, ap, _∙_}
+use Prim.Native.Nat.{ℕ, _*_, _%_}
 use native.Mathlib.Omega.{arith}
 use lib.ListN.{getD}
 use denote.Ref.{now}
-use Rattle.paper.specs.Lattice.{cubes, sampleNo}
+use Rattle.paper.specs.Lattice.{sampleNo}
 use Rattle.lattice.proofs.Laws.{samples-few}
 use Rattle.tetra.specs.Cut.{triOf}
 use Rattle.survey.specs.Marks.{baseOf}

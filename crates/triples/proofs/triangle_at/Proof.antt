@@ -1,5 +1,4 @@
 -- The three corners. Assumes nothing.
-use mathlib.Core.Path.{_≡_, refl, sym, ap, _∙_}
 use Rattle.paper.specs.Tables.{tri}
 use Rattle.paper.specs.Check.{triangleOf}
 use borrow.Author.Needs.{needs}
