@@ -1,10 +1,9 @@
-# make test:  the gate.
-# make demo:  builds what it needs, makes a synthetic tray, builds, checks, lists and audits its sheets.
-# make trials: the proved library against the second mesher, on random input.
-# make bench: the proved library beside a hand-written C mesher.
-# make fuzz:  random and mutated input, ROUNDS of it.
+# make test:   the gate.
+# make demo:   builds what it needs, makes a synthetic tray, builds, checks, lists and audits its sheets.
+# make trials: the proved library and the tool against the second mesher, on random input.
+# make bench:  the proved library beside a hand-written C mesher.
+# make fuzz:   random and mutated input, for ten minutes.
 .PHONY: test host trials demo bench fuzz
-ROUNDS ?= 100000
 
 test:
 	bash .ci/run
@@ -12,16 +11,16 @@ test:
 # The tool and its trials, over the proved library.
 host:
 	rt staticlib cabi
-	cd host && cargo build --release --offline --locked
+	sh host/cargo.sh build --workspace
 
 trials: host
-	cd host && cargo test --release --offline --locked --workspace
+	sh host/cargo.sh test --workspace
 
 demo: host
 	sh host/demo.sh
 
-bench: host
-	host/target/release/bench
+bench:
+	sh host/bench.sh
 
 fuzz: host
-	host/target/release/fuzz $(ROUNDS)
+	host/target/release/fuzz 10m

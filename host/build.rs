@@ -1,4 +1,4 @@
-//! Links the proved library, target/staticlib/libcabi.a of the repository.
+//! Links the proved library, target/staticlib/libcabi.a of the repository, or the one that MALXUQEED_LIBRARY names.
 //!
 //! The library is compiled for x86-64. On another processor it cannot be linked into a Rust program: it is then linked
 //! with bridge/serve.c into a small x86-64 program, by the compiler of the Rattle kit, and run under the kit's emulator.
@@ -10,15 +10,18 @@ fn main() {
     println!("cargo:rustc-check-cfg=cfg(emulated)");
     println!("cargo:rerun-if-changed=build.rs");
     println!("cargo:rerun-if-changed=bridge/serve.c");
-    let folder = Path::new(env!("CARGO_MANIFEST_DIR")).join("../target/staticlib");
-    let archive = folder.join("libcabi.a");
+    println!("cargo:rerun-if-env-changed=MALXUQEED_LIBRARY");
+    let archive = match std::env::var_os("MALXUQEED_LIBRARY") {
+        Some(archive) => PathBuf::from(archive),
+        None => Path::new(env!("CARGO_MANIFEST_DIR")).join("../target/staticlib/libcabi.a"),
+    };
     println!("cargo:rerun-if-changed={}", archive.display());
     let Ok(bytes) = std::fs::read(&archive) else {
         stop("target/staticlib/libcabi.a is missing: run `rt staticlib cabi` in the repository's root");
     };
     let here = std::env::var("CARGO_CFG_TARGET_ARCH").unwrap_or_default();
     if machine(&bytes) == Some(here.as_str()) {
-        println!("cargo:rustc-link-search=native={}", folder.display());
+        println!("cargo:rustc-link-search=native={}", archive.with_file_name("").display());
         println!("cargo:rustc-link-lib=static=cabi");
     } else {
         emulate(&archive);

@@ -289,10 +289,10 @@ fn a_crash_leaves_the_old_file_or_none() {
     let folder = Folder::new("crash");
     folder.put("v.raw", &larger());
     folder.put("old.sheet", b"old");
-    // the same limit with its signal: the tool dies in the middle of its write
+    // the same limit with its signal, SIGXFSZ: the tool dies in the middle of its write
     for sheet in ["old.sheet", "new.sheet"] {
-        let run = folder.shell(&format!("ulimit -c 0; ulimit -f 1; \"$1\" build v.raw {sheet}"));
-        assert_ne!(run.status, Some(0));
+        let run = folder.shell(&format!("ulimit -c 0; ulimit -f 1; \"$1\" build v.raw {sheet}; echo $?"));
+        assert_eq!(run.output, "153\n", "{run:?}");
     }
     assert_eq!(folder.get("old.sheet"), b"old");
     assert!(!folder.0.join("new.sheet").exists());

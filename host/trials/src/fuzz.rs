@@ -8,7 +8,22 @@ use std::os::unix::fs::FileExt;
 use std::panic::{catch_unwind, AssertUnwindSafe};
 use std::sync::atomic::{AtomicU64, Ordering};
 use std::sync::Arc;
-use std::time::Duration;
+use std::time::{Duration, Instant};
+
+/// How long to go on.
+pub enum Span {
+    Rounds(u64),
+    Minutes(u64),
+}
+
+impl Span {
+    fn goes_on(&self, round: u64, began: Instant) -> bool {
+        match self {
+            Span::Rounds(rounds) => round < *rounds,
+            Span::Minutes(minutes) => began.elapsed() < Duration::from_secs(60 * minutes),
+        }
+    }
+}
 
 /// A round that takes longer than this many seconds hangs.
 const PATIENCE: u64 = 60;
@@ -42,14 +57,16 @@ fn watch(round: Arc<AtomicU64>) {
     });
 }
 
-/// Runs rounds in the current folder, whose files it removes. An error names the round that failed; after a crash the
-/// file `round` beside the folder does.
-pub fn run(rounds: u64, seed: u64) -> Result<Counts, String> {
+/// Runs rounds in the current folder, whose files it removes; answers how many, and the counts. An error names the round
+/// that failed; after a crash the file `round` beside the folder does.
+pub fn run(span: Span, seed: u64) -> Result<(u64, Counts), String> {
+    let began = Instant::now();
     let now = Arc::new(AtomicU64::new(0));
     watch(now.clone());
     let log = File::create("../round").map_err(|error| error.to_string())?;
     let mut counts = Counts::new();
-    for round in 0..rounds {
+    let mut round = 0;
+    while span.goes_on(round, began) {
         now.store(round, Ordering::Relaxed);
         log.write_all_at(format!("{round:20} of seed {seed}\n").as_bytes(), 0).map_err(|error| error.to_string())?;
         let (name, trial) = TRIALS[(round % TRIALS.len() as u64) as usize];
@@ -58,9 +75,10 @@ pub fn run(rounds: u64, seed: u64) -> Result<Counts, String> {
             Ok(answer) => *counts.entry((name, answer)).or_default() += 1,
             Err(_) => return Err(format!("round {round} of seed {seed} failed: {name}")),
         }
+        round += 1;
     }
     now.store(u64::MAX, Ordering::Relaxed);
-    Ok(counts)
+    Ok((round, counts))
 }
 
 /// A new folder with an empty one inside, which is made the current one. The outer is returned.

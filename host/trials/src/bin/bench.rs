@@ -1,4 +1,6 @@
 //! `bench [REPEATS]`: the proved library beside the hand-written C mesher, on three 64x64x64 volumes.
+//!
+//! `make bench` builds it so that the library's code is this processor's (see bench.sh).
 
 use host::abi::{self, Work};
 use std::time::{Duration, Instant};
@@ -123,6 +125,9 @@ fn main() -> std::process::ExitCode {
     println!(
         "Least of {repeats} repeats, all calls interleaved in one run; all buffers were cleared before each call."
     );
+    if option_env!("MALXUQEED_LIBRARY").is_some() {
+        println!("The library's module was compiled for this processor; the library that is shipped is x86-64 code.");
+    }
     if abi::EMULATED {
         println!(
             "On this processor the library runs under an emulator, in a process of its own: its times say nothing."

@@ -1,17 +1,30 @@
-//! `fuzz ROUNDS [SEED]`: random and mutated volumes, sheets and command lines against the library and the tool.
+//! `fuzz SPAN [SEED]`: random and mutated volumes, sheets and command lines against the library and the tool.
 
 use std::process::ExitCode;
-use trials::fuzz;
+use trials::fuzz::{self, Span};
+
+/// A number of rounds, or of minutes, as `10m`.
+fn span(word: &str) -> Option<Span> {
+    match word.strip_suffix('m') {
+        Some(minutes) => minutes.parse().ok().map(Span::Minutes),
+        None => word.parse().ok().map(Span::Rounds),
+    }
+}
+
+/// The span, and the seed: 1 where none is named.
+fn asked(words: &[String]) -> Option<(Span, u64)> {
+    match words {
+        [long] => Some((span(long)?, 1)),
+        [long, seed] => Some((span(long)?, seed.parse().ok()?)),
+        _ => None,
+    }
+}
 
 fn main() -> ExitCode {
-    let numbers: Option<Vec<u64>> = std::env::args().skip(1).map(|arg| arg.parse().ok()).collect();
-    let (rounds, seed) = match numbers.as_deref() {
-        Some([rounds]) => (*rounds, 1),
-        Some([rounds, seed]) => (*rounds, *seed),
-        _ => {
-            eprintln!("fuzz ROUNDS [SEED]: runs so many rounds, in a new folder for temporary files");
-            return ExitCode::from(2);
-        }
+    let words: Vec<String> = std::env::args().skip(1).collect();
+    let Some((span, seed)) = asked(&words) else {
+        eprintln!("fuzz ROUNDS [SEED], fuzz MINUTESm [SEED]: runs so long, in a new folder for temporary files");
+        return ExitCode::from(2);
     };
     let folder = match fuzz::enter_new_folder() {
         Ok(folder) => folder,
@@ -20,8 +33,8 @@ fn main() -> ExitCode {
             return ExitCode::from(2);
         }
     };
-    match fuzz::run(rounds, seed) {
-        Ok(counts) => {
+    match fuzz::run(span, seed) {
+        Ok((rounds, counts)) => {
             println!(
                 "{rounds} rounds, seed {seed}: no crash, no hang, no file damaged, no answer but the second mesher's"
             );
