@@ -7,7 +7,7 @@ use native.Mathlib.Omega.{arith}
 use lib.Dec.{eqb, leb}
 use lib.IntN.{ℤ}
 use lib.ListN.{length}
-use borrow.Author.Tests.{ne-eqb, le-leb, lt-leb}
+use borrow.Author.Tests.{ne-eqb, leb-true}
 use Rattle.lists.specs.Lists.{over, cleared, isIn}
 use Rattle.paper.specs.declared.Sizes.{Sizes}
 use Rattle.paper.specs.declared.Start.{Start}
@@ -16,10 +16,10 @@ use Rattle.paper.specs.Lattice.{Lattice, axes, samples, cubes, visited}
 use Rattle.paper.specs.Sheet.{Sheet, sheetOf, vertexWords, triangleWords}
 use Rattle.paper.specs.Tests.{Test, test, judge}
 use Rattle.paper.specs.Build.{Lent, lent, vertexRoom, triangleRoom, needed, neededSlots, roomy, named, startOf, starts, sampleTests, roomTests, buildNumber, counted, uncounted, built, workAfter, outputAfter, lentAfter, Builds}
-use Rattle.paper.proofs.Judged.{Numbered, judge-past, judge-stop}
+use Rattle.paper.proofs.Judged.{Numbered, judge-all, judge-past, judge-stop}
 use Rattle.flood.specs.Flooded.{wordsOf}
 use Rattle.sheet.specs.declared.Counts.{Counts}
-use Rattle.sheet.specs.Measured.{slotsOf, countsOf, Measured}
+use Rattle.sheet.specs.Measured.{slotsOf, countsOf, roomTestsBy, Measured}
 use Rattle.sheet.proofs.Measuring.{clear-front, clear-beyond, words-length, slots-length}
 
 -- ── numbers 1 to 5 ──
@@ -41,6 +41,19 @@ early (suc (suc (suc zero))) h l = (refl, refl)
 early (suc (suc (suc (suc zero)))) h l = (refl, refl)
 early (suc (suc (suc (suc (suc zero))))) h l = (refl, refl)
 early (suc (suc (suc (suc (suc (suc r)))))) h l = absurd (omega arith)
+
+-- tests 6 and 7 give one of those numbers, or none
+late : (a b : Bool) → let n = judge (test 6 a ∷ test 7 b ∷ []) .number in
+    (isIn (0 ∷ 6 ∷ 7 ∷ []) n ≡ true) × (isIn (0 ∷ 6 ∷ 7 ∷ 17 ∷ 18 ∷ 19 ∷ []) n ≡ true)
+late true true = (refl, refl)
+late true false = (refl, refl)
+late false b = (refl, refl)
+
+-- where both are passed, the sheet has room
+pub room-fits : (c : Counts) (v t : ℕ) → judge (roomTestsBy c v t) .number ≡ 0 → (c .vertices ≤ v) × (c .triangles ≤ t)
+room-fits c v t e =
+    let p = judge-all (roomTestsBy c v t) (omega arith, (omega arith, tt)) e in
+    (leb-true (c .vertices) v (p .0), leb-true (c .triangles) t (p .1 .0))
 
 module _ (L : Lattice) (s : Start) (l : Lent) where
   abbrev z : Sizes
@@ -103,22 +116,6 @@ module _ (L : Lattice) (s : Start) (l : Lent) where
     room-number =
         ap (λ (v : _). v .number) (judge-past tests (roomTests S (vertexRoom (l .vertices)) (triangleRoom (l .triangles))) numbered-tests passed)
 
-    number-6 : vertexRoom (l .vertices) < length (S .edges) → buildNumber L s l ≡ 6
-    unfolding roomTests
-    number-6 h = room-number ∙ rw (lt-leb (length (S .edges)) (vertexRoom (l .vertices)) h)
-
-    number-7 : length (S .edges) ≤ vertexRoom (l .vertices) → triangleRoom (l .triangles) < length (S .triangles) → buildNumber L s l ≡ 7
-    unfolding roomTests
-    number-7 g h =
-        room-number
-        ∙ rw (le-leb (length (S .edges)) (vertexRoom (l .vertices)) g, lt-leb (length (S .triangles)) (triangleRoom (l .triangles)) h)
-
-    number-0 : length (S .edges) ≤ vertexRoom (l .vertices) → length (S .triangles) ≤ triangleRoom (l .triangles) → buildNumber L s l ≡ 0
-    unfolding roomTests
-    number-0 g h =
-        room-number
-        ∙ rw (le-leb (length (S .edges)) (vertexRoom (l .vertices)) g, le-leb (length (S .triangles)) (triangleRoom (l .triangles)) h)
-
     -- the measured sheet is that of the start, and the work room is clear at its front
     module _ (k : ℕ) (is : k ≡ startOf L s) (c : Counts) (words waiting slots : List ℕ)
         (m : Measured L k (l .words) (l .waiting) (l .slots) words waiting slots c) (words′ waiting′ slots′ : List ℕ)
@@ -142,43 +139,31 @@ module _ (L : Lattice) (s : Start) (l : Lent) where
       slots-clear =
           cs ∙ clear-front (neededSlots z) (slotsOf z (sheetOf L k .edges)) (l .slots) slots (slots-length z (sheetOf L k .edges)) (m .numbered)
 
-      answered : (n : ℕ) → buildNumber L s l ≡ n → isIn (0 ∷ 6 ∷ 7 ∷ []) n ≡ true
-          → record { number = n; vertices = c .vertices; triangles = c .triangles; cubes = c .cubes } ≡ built L s l
-      answered n e t =
-          (λ i. let d = counts-are i in record { number = n; vertices = d .vertices; triangles = d .triangles; cubes = d .cubes })
-          ∙ sym (answer-at n e ∙ ap (λ (b : Bool). cond b (counted n S) (uncounted n)) t)
-
-      pub refused-6 : vertexRoom (l .vertices) < c .vertices
-          → Builds L s l (record { number = 6; vertices = c .vertices; triangles = c .triangles; cubes = c .cubes }) (lent (l .vertices) (l .triangles) words′ waiting′ slots′)
-      unfolding outputAfter workAfter
-      refused-6 h =
-          let n = number-6 (omega (arith, vertices-are)) in
+      -- the tests of room, by the counts: their number, its answer and what is left
+      pub settled : (n : ℕ) → n ≡ judge (roomTestsBy c (vertexRoom (l .vertices)) (triangleRoom (l .triangles))) .number → (vs : List ℤ) (ts : List ℕ)
+          → vs ≡ outputAfter n (vertexWords L (sheetOf L k)) (l .vertices) → ts ≡ outputAfter n (triangleWords (sheetOf L k)) (l .triangles)
+          → Builds L s l (record { number = n; vertices = c .vertices; triangles = c .triangles; cubes = c .cubes }) (lent vs ts words′ waiting′ slots′)
+      unfolding roomTests workAfter
+      settled n e vs ts ev et =
+          let e′ : n ≡ judge (roomTests S (vertexRoom (l .vertices)) (triangleRoom (l .triangles))) .number =
+          e ∙ ap (λ (c : Counts). judge (roomTestsBy c (vertexRoom (l .vertices)) (triangleRoom (l .triangles))) .number) counts-are in
+          let b : buildNumber L s l ≡ n = room-number ∙ sym e′ in
+          let w = late (leb (length (S .edges)) (vertexRoom (l .vertices))) (leb (length (S .triangles)) (triangleRoom (l .triangles))) in
+          let w₀ : isIn (0 ∷ 6 ∷ 7 ∷ []) n ≡ true = ap (isIn (0 ∷ 6 ∷ 7 ∷ [])) e′ ∙ w .0 in
+          let w₁ : isIn (0 ∷ 6 ∷ 7 ∷ 17 ∷ 18 ∷ 19 ∷ []) n ≡ true = ap (isIn (0 ∷ 6 ∷ 7 ∷ 17 ∷ 18 ∷ 19 ∷ [])) e′ ∙ w .1 in
+          let fv = ev ∙ ap (λ (k : ℕ). outputAfter n (vertexWords L (sheetOf L k)) (l .vertices)) is in
+          let ft = et ∙ ap (λ (k : ℕ). outputAfter n (triangleWords (sheetOf L k)) (l .triangles)) is in
           record {
-            answer = answered 6 n refl;
-            left = (λ i. lent (l .vertices) (l .triangles) (words-clear i) (waiting-clear i) (slots-clear i)) ∙ sym (left-at 6 n);
-          }
-
-      pub refused-7 : c .vertices ≤ vertexRoom (l .vertices) → triangleRoom (l .triangles) < c .triangles
-          → Builds L s l (record { number = 7; vertices = c .vertices; triangles = c .triangles; cubes = c .cubes }) (lent (l .vertices) (l .triangles) words′ waiting′ slots′)
-      unfolding outputAfter workAfter
-      refused-7 g h =
-          let n = number-7 (omega (arith, vertices-are)) (omega (arith, triangles-are)) in
-          record {
-            answer = answered 7 n refl;
-            left = (λ i. lent (l .vertices) (l .triangles) (words-clear i) (waiting-clear i) (slots-clear i)) ∙ sym (left-at 7 n);
-          }
-
-      pub succeeded : c .vertices ≤ vertexRoom (l .vertices) → c .triangles ≤ triangleRoom (l .triangles) → (vs : List ℤ) (ts : List ℕ)
-          → vs ≡ over (vertexWords L (sheetOf L k)) (l .vertices) → ts ≡ over (triangleWords (sheetOf L k)) (l .triangles)
-          → Builds L s l (record { number = 0; vertices = c .vertices; triangles = c .triangles; cubes = c .cubes }) (lent vs ts words′ waiting′ slots′)
-      unfolding outputAfter workAfter
-      succeeded g h vs ts ev et =
-          let n = number-0 (omega (arith, vertices-are)) (omega (arith, triangles-are)) in
-          let fv = ev ∙ ap (λ (k : ℕ). over (vertexWords L (sheetOf L k)) (l .vertices)) is in
-          let ft = et ∙ ap (λ (k : ℕ). over (triangleWords (sheetOf L k)) (l .triangles)) is in
-          record {
-            answer = answered 0 n refl;
-            left = (λ i. lent (fv i) (ft i) (words-clear i) (waiting-clear i) (slots-clear i)) ∙ sym (left-at 0 n);
+            answer =
+                (λ i. let d = counts-are i in record { number = n; vertices = d .vertices; triangles = d .triangles; cubes = d .cubes })
+                ∙ sym (answer-at n b ∙ ap (λ (b : Bool). cond b (counted n S) (uncounted n)) w₀);
+            left =
+                (λ i. lent (fv i) (ft i) (words-clear i) (waiting-clear i) (slots-clear i))
+                ∙ sym (left-at n b
+                ∙ (λ i.
+                lent (outputAfter n (vertexWords L S) (l .vertices)) (outputAfter n (triangleWords S) (l .triangles))
+                (cond (w₁ i) (cleared (needed z) (l .words)) (l .words)) (cond (w₁ i) (cleared (needed z) (l .waiting)) (l .waiting))
+                (cond (w₁ i) (cleared (neededSlots z) (l .slots)) (l .slots))));
           }
 
 -- any two outcomes that the contract of a build allows agree

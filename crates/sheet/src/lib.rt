@@ -3,13 +3,17 @@ use paper::Built;
 use paper::Sizes;
 use paper::Start;
 ghost use mathlib.Core.Path.{_≡_};
-ghost use Prim.Native.Nat.{_≤_, _<_};
+ghost use Prim.Native.Nat.{_*_, _/_, _≤_, _<_};
 ghost use lib.ListN.{length};
 ghost use Rattle.lists.specs.Lists.{cleared};
 ghost use Rattle.paper.specs.Lattice.{lattice, cubes};
-ghost use Rattle.paper.specs.Build.{lent, needed, neededSlots, Builds};
+ghost use Rattle.paper.specs.Tests.{judge};
+ghost use Rattle.paper.specs.Build.{lent, needed, neededSlots, outputAfter, Builds};
 ghost use Rattle.paper.specs.Within.{Sized, Full};
-ghost use Rattle.sheet.specs.Measured.{Measured};
+ghost use Rattle.survey.specs.Marks.{trianglesUpto};
+ghost use Rattle.vertices.specs.Records.{usedFrom, recordsFrom, AllCross};
+ghost use Rattle.triangles.specs.Named.{wordsFor};
+ghost use Rattle.sheet.specs.Measured.{roomTestsBy, Measured};
 
 // How many vertices, triangles and visited cubes a sheet has.
 pub struct Counts {
@@ -54,6 +58,41 @@ pub fn clear_work(sizes: Sizes, words: &mut [u16], waiting: &mut [u32], slots: &
     flood::clear_list(slots, 7 * lattice::sample_count(sizes));
 }
 
+// Tests 6 and 7, for counts and the lengths of the lent output: the number of the first that fails, or 0.
+fn room_number(c: Counts, vertices: usize, triangles: usize) -> usize
+    ensures { λ r. ⌜ r ≡ judge (roomTestsBy c (vertices / 4) (triangles / 3)) .number ⌝ }
+{
+    if vertices / 4 < c.vertices {
+        return 6;
+    }
+    if triangles / 3 < c.triangles {
+        return 7;
+    }
+    0
+}
+
+// The vertices and triangles of what is measured are written, where the number is 0.
+fn put_sheet(
+    number: usize,
+    samples: &[i16],
+    sizes: Sizes,
+    words: &[u16],
+    slots: &[u32],
+    vertices: &mut [i32],
+    triangles: &mut [u32],
+)
+    requires { ⌜ Full (lattice sizes (now samples)) × AllCross (lattice sizes (now samples)) (now slots) ⌝ }
+    requires { ⌜ (needed sizes ≤ length (now words)) × (neededSlots sizes ≤ length (now slots)) ⌝ }
+    requires { ⌜ (number ≡ 0 → 4 * length (usedFrom (now slots) 0 (neededSlots sizes)) ≤ length (now vertices)) × (number ≡ 0 → 3 * length (trianglesUpto sizes (now words) (cubes sizes)) ≤ length (now triangles)) ⌝ }
+    ensures { λ _. ⌜ (now (vertices .exit) ≡ outputAfter number (recordsFrom (lattice sizes (now (samples .entry))) (now (slots .entry)) 0 (neededSlots sizes)) (now (vertices .entry))) × (now (triangles .exit) ≡ outputAfter number (wordsFor (now (slots .entry)) (trianglesUpto sizes (now (words .entry)) (cubes sizes))) (now (triangles .entry))) ⌝ }
+{
+    if number != 0 {
+        return;
+    }
+    vertices::put_vertices(samples, sizes, slots, vertices);
+    triangles::put_triangles(words, sizes, slots, triangles);
+}
+
 // The sheet of a lattice from a start cube, or the number of the first test that fails.
 pub fn build(
     samples: &[i16],
@@ -84,29 +123,11 @@ pub fn build(
         };
     }
     let c = measure(samples, sizes, b.cube, words, waiting, slots);
-    if vertices.len() / 4 < c.vertices {
-        clear_work(sizes, words, waiting, slots);
-        return Built {
-            number: 6,
-            vertices: c.vertices,
-            triangles: c.triangles,
-            cubes: c.cubes,
-        };
-    }
-    if triangles.len() / 3 < c.triangles {
-        clear_work(sizes, words, waiting, slots);
-        return Built {
-            number: 7,
-            vertices: c.vertices,
-            triangles: c.triangles,
-            cubes: c.cubes,
-        };
-    }
-    vertices::put_vertices(samples, sizes, slots, vertices);
-    triangles::put_triangles(words, sizes, slots, triangles);
+    let number = room_number(c, vertices.len(), triangles.len());
+    put_sheet(number, samples, sizes, words, slots, vertices, triangles);
     clear_work(sizes, words, waiting, slots);
     Built {
-        number: 0,
+        number: number,
         vertices: c.vertices,
         triangles: c.triangles,
         cubes: c.cubes,
