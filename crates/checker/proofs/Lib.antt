@@ -3,4 +3,5 @@ pub mod Answers
 pub mod Known
 pub mod Counting
 pub mod Complete
+pub mod Spots
 pub mod Verdicts

@@ -57,21 +57,30 @@ row-long : (z : Sizes) (base t r : ℕ) → length (rowTriangles z base t r) ≡
 unfolding rowTriangles rowCount
 row-long z base t r = length-map (getD rows r []) _
 
+-- what stands at a place is one of its row's triangles
+pub at-row : (z : Sizes) (base m : ℕ) (t : Tri) (c : ℕ) → isAt z base m t c ≡ true
+    → let l = rowTriangles z base (c / 2) (rowBy m (c / 2)) in (c % 2 < length l) × T (turned t (getD l (c % 2) (tri 0 0 0)))
+unfolding isAt
+at-row z base m t c e =
+    let r = rowBy m (c / 2) in
+    let a = ltb (c % 2) (rowCount r) in
+    let b = turned t (getD (rowTriangles z base (c / 2) r) (c % 2) (tri 0 0 0)) in
+    let w : T (a && b) = eq→T e in
+    (omega (arith, ltb→lt (c % 2) (rowCount r) (and-left a b w), row-long z base (c / 2) r), and-right a b w)
+
 module _ (z : Sizes) (base m : ℕ) (t : Tri) where
   part : ℕ → List Tri
   part k = rowTriangles z base k (rowBy m k)
 
   places-sound : T (any (isAt z base m t) (range 0 12)) → T (any (λ k. any (turned t) (part k)) (range 0 6))
-  unfolding isAt part
+  unfolding part
   places-sound h =
       let w = any-in (isAt z base m t) (range 0 12) h in
       let c = w .0 in
       let b : c < 12 = omega (arith, range-in 0 12 c (w .1 .0)) in
-      let u = getD (part (c / 2)) (c % 2) (tri 0 0 0) in
-      let l = ltb→lt (c % 2) (rowCount (rowBy m (c / 2))) (and-left (ltb (c % 2) (rowCount (rowBy m (c / 2)))) (turned t u) (w .1 .1)) in
+      let v = at-row z base m t c (T→eq (isAt z base m t c) (w .1 .1)) in
       in-any (λ k. any (turned t) (part k)) (range 0 6) (c / 2) (in-range 0 6 (c / 2) (omega arith) (omega arith))
-      (at-any (turned t) (part (c / 2)) (tri 0 0 0) (c % 2) (omega (arith, row-long z base (c / 2) (rowBy m (c / 2))))
-      (and-right (ltb (c % 2) (rowCount (rowBy m (c / 2)))) (turned t u) (w .1 .1)))
+      (at-any (turned t) (part (c / 2)) (tri 0 0 0) (c % 2) (v .0) (v .1))
 
   places-full : T (any (λ k. any (turned t) (part k)) (range 0 6)) → T (any (isAt z base m t) (range 0 12))
   unfolding isAt part
@@ -104,7 +113,7 @@ module _ (z : Sizes) (base m : ℕ) (t : Tri) where
 abbrev here : Sizes → Tri → ℕ
 here z t = cubeNo z (cubeOf z t)
 
-holder-is : (z : Sizes) (t : Tri) → holder z t ≡ here z t
+pub holder-is : (z : Sizes) (t : Tri) → holder z t ≡ here z t
 unfolding holder cubeOf anchorOf
 holder-is z t = refl
 
@@ -273,16 +282,21 @@ module _ (L : Lattice) (s : Sized (L .size)) (start : ℕ) (words : List ℕ)
   abbrev size : Sizes
   size = L .size
 
-  cube-places : (k : ℕ) (t : Tri) → T (isIn (visited L start) k) → ltb (placeIn size words k t) 12 ≡ any (turned t) (cubeTriangles L k)
+  -- the triangles by a visited cube's word are the cube's
+  pub cube-is : (k : ℕ) → T (isIn (visited L start) k) → (k < cubes size) × (getD words k 0 ≡ 0 → ⊥) × (trianglesBy size (baseOf size k) (getD words k 0 % 256) ≡ cubeTriangles L k)
   unfolding wordOf baseOf
-  cube-places k t v =
+  cube-is k v =
       let h = visited-lt L start k v in
       let p = patternAt L (cubeAt size k) in
       let e : getD words k 0 ≡ 256 + p = words-are k h ∙ ap (λ (b : Bool). cond b (256 + p) 0) (T→eq (isIn (visited L start) k) v) in
       let q : getD words k 0 % 256 ≡ p = omega (arith, pattern-lt L (cubeAt size k)) in
-      ap (λ (c : ℕ). ltb c 12) (sym (place-word size words k t h (λ o. omega arith)))
-      ∙ (placed size (baseOf size k) (getD words k 0 % 256) t
-      ∙ ap (any (turned t)) (ap (trianglesBy size (baseOf size k)) q ∙ cube-triangles-by L k))
+      (h, (λ o. omega arith), ap (trianglesBy size (baseOf size k)) q ∙ cube-triangles-by L k)
+
+  cube-places : (k : ℕ) (t : Tri) → T (isIn (visited L start) k) → ltb (placeIn size words k t) 12 ≡ any (turned t) (cubeTriangles L k)
+  cube-places k t v =
+      let w = cube-is k v in
+      ap (λ (c : ℕ). ltb c 12) (sym (place-word size words k t (w .0) (w .1)))
+      ∙ (placed size (baseOf size k) (getD words k 0 % 256) t ∙ ap (any (turned t)) (w .2))
 
   no-places : (k : ℕ) (t : Tri) → isIn (visited L start) k ≡ false → ltb (placeIn size words k t) 12 ≡ false
   no-places k t v = ap (λ (c : ℕ). ltb c 12) (sym (go (ltb k (cubes size)) refl))

@@ -1,5 +1,6 @@
 -- A file's triangles, named by edges, against the triangles of the visited cubes. Assumes nothing.
-use mathlib.Core.Bool.{Bool, cond, not, _&&_}
+use mathlib.Core.Path.{_≡_}
+use mathlib.Core.Bool.{Bool, true, cond, not, _&&_}
 use mathlib.Core.List.{List}
 use Prim.Native.Nat.{ℕ, zero, suc, _+_, _/_, _%_, _^_, min, _<_}
 use lib.IntN.{ℤ}
@@ -51,6 +52,11 @@ placeIn z words k t =
 
 unfoldable pub placeOf : Sizes → List ℕ → Tri → ℕ
 placeOf z words t = placeIn z words (holder z t) t
+
+-- a triangle that stands at a place of a cube with a word has that cube and that place, and no other
+pub record Sure (z : Sizes) (words : List ℕ) : Type 0 where
+  pub at : (k c : ℕ) (t : Tri) → k < cubes z → c < 12 → (getD words k 0 ≡ 0 → ⊥) → isAt z (baseOf z k) (getD words k 0 % 256) t c ≡ true
+      → (holder z t ≡ k) × (placeOf z words t ≡ c)
 
 -- t is a triangle of its cube, and its bit there is 0
 unfoldable pub fresh : Sizes → List ℕ → List ℕ → Tri → Bool
