@@ -18,62 +18,50 @@ ghost use Rattle.paper.specs.Lattice.{air};
 
 // ── answers as text ──
 
+fn say(before: &[u8], n: usize) {
+    text(before);
+    decimal(n as u64);
+}
+
 fn say_sizes(z: Sizes) {
-    decimal(z.nx as u64);
-    text(b"x");
-    decimal(z.ny as u64);
-    text(b"x");
-    decimal(z.nz as u64);
+    say(b"", z.nx);
+    say(b"x", z.ny);
+    say(b"x", z.nz);
 }
 
 fn say_place(p: Place) {
-    text(b"(");
-    decimal(p.x as u64);
-    text(b",");
-    decimal(p.y as u64);
-    text(b",");
-    decimal(p.z as u64);
+    say(b"(", p.x);
+    say(b",", p.y);
+    say(b",", p.z);
     text(b")");
 }
 
-fn say_counts(v: usize, t: usize) {
-    text(b",");
-    number(v as u64);
-    text(b" vertices,");
-    number(t as u64);
-    text(b" triangles,");
-}
-
 fn say_built(r: Built) {
-    text(b"build");
-    number(r.number as u64);
-    say_counts(r.vertices, r.triangles);
-    number(r.cubes as u64);
+    say(b"build ", r.number);
+    say(b", ", r.vertices);
+    say(b" vertices, ", r.triangles);
+    say(b" triangles, ", r.cubes);
     text(b" cubes\n");
 }
 
 fn say_wrote(r: Wrote) {
-    text(b"write");
-    number(r.number as u64);
-    text(b",");
-    number(r.bytes as u64);
+    say(b"write ", r.number);
+    say(b", ", r.bytes);
     text(b" bytes");
 }
 
 fn say_got(r: Got) {
-    text(b"read");
-    number(r.number as u64);
-    say_counts(r.vertices, r.triangles);
-    text(b" ");
+    say(b"read ", r.number);
+    say(b", ", r.vertices);
+    say(b" vertices, ", r.triangles);
+    text(b" triangles, ");
     say_sizes(r.sizes);
     text(b"\n");
 }
 
 fn say_verdict(r: Verdict) {
-    text(b"check");
-    number(r.number as u64);
-    text(b" at");
-    number(r.place as u64);
+    say(b"check ", r.number);
+    say(b" at ", r.place);
     text(b"\n");
 }
 
@@ -260,10 +248,8 @@ fn middle_starts(samples: &[i16]) {
 fn middle_in_room(samples: &[i16], nv: usize, nt: usize)
     requires { ⌜ (nv ≤ 100) × (nt ≤ 100) ⌝ }
 {
-    text(b"3x3x3, only (1,1,1) air, room");
-    number(nv as u64);
-    text(b" and");
-    number(nt as u64);
+    say(b"3x3x3, only (1,1,1) air, room ", nv);
+    say(b" and ", nt);
     text(b": ");
     answer_in(samples, sized(3, 3, 3), Start::Unnamed, nv, nt);
 }
@@ -314,8 +300,7 @@ fn t_for(p: i16, q: i16)
     say_sample(p);
     text(b" and");
     say_sample(q);
-    text(b":");
-    number(crossing::crossing_of(p, q) as u64);
+    say(b": ", crossing::crossing_of(p, q) as usize);
     text(b"\n");
 }
 
