@@ -6,15 +6,15 @@ ghost use Prim.Native.Nat.{_+_, _*_, _≤_};
 ghost use lib.IntN.{natAbs};
 ghost use lib.ListN.{length};
 
-fn text(s: &[u8]) {
+pub fn text(s: &[u8]) {
     io::write_all(1, s);
 }
 
-fn decimal(n: u64) {
+pub fn decimal(n: u64) {
     io::print_decimal(1, n);
 }
 
-fn number(n: u64) {
+pub fn number(n: u64) {
     text(b" ");
     decimal(n);
 }
@@ -33,7 +33,7 @@ fn magnitude(v: i32) -> u64
     }
 }
 
-fn signed(v: i32) {
+pub fn signed(v: i32) {
     text(b" ");
     if is_negative(v) {
         text(b"-");
@@ -56,7 +56,7 @@ fn vertex(v: &[i32], at: usize)
     text(b"\n");
 }
 
-fn vertices(v: &[i32], n: usize)
+pub fn vertices(v: &[i32], n: usize)
     requires { ⌜ 4 * n ≤ length (now v) ⌝ }
 {
     for i in 0..n {
@@ -74,7 +74,7 @@ fn triangle(t: &[u32], at: usize)
     text(b"\n");
 }
 
-fn triangles(t: &[u32], n: usize)
+pub fn triangles(t: &[u32], n: usize)
     requires { ⌜ 3 * n ≤ length (now t) ⌝ }
 {
     for i in 0..n {
