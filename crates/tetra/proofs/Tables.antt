@@ -54,13 +54,6 @@ unfolding tetEnds tetAt tets tetEdges low joins kinds kindOf
 kind-lt t j ht hj = ltb→lt (kindOf (tetEnds t j)) 7 (grid-at 6 6 (λ t j. ltb (kindOf (tetEnds t j)) 7) tt t j ht hj)
 
 -- counts and edges of rows
-unfoldable pub countTable : List ℕ
-countTable = 0 ∷ 1 ∷ 1 ∷ 2 ∷ 1 ∷ 2 ∷ 2 ∷ 1 ∷ 1 ∷ 2 ∷ 2 ∷ 1 ∷ 2 ∷ 1 ∷ 1 ∷ 0 ∷ []
-
-pub count-is : (r : ℕ) → r < 16 → getD countTable r 0 ≡ rowCount r
-unfolding countTable rowCount rows
-count-is r h = eqb→eq _ _ (upto-at 16 (λ r. eqb (getD countTable r 0) (rowCount r)) tt r h)
-
 pub count-le : (r : ℕ) → r < 16 → rowCount r ≤ 2
 unfolding rowCount rows
 count-le r h = leb→le (rowCount r) 2 (upto-at 16 (λ r. leb (rowCount r) 2) tt r h)

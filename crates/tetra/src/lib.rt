@@ -46,8 +46,8 @@ const ROWS: [[usize; 6]; 16] = [
     [0, 0, 0, 0, 0, 0],
 ];
 
-// How many triangles each row has.
-const COUNTS: [usize; 16] = [0, 1, 1, 2, 1, 2, 2, 1, 1, 2, 2, 1, 2, 1, 1, 0];
+// How many triangles each row has: octal digit r, from the right, is that of row r.
+const COUNTS: usize = 0o0112122112212110;
 
 // The corner at the anchor, and the kind, of edges e1 to e6 of each tetrahedron.
 const LOWS: [[usize; 6]; 6] = [
@@ -68,28 +68,17 @@ const KINDS: [[usize; 6]; 6] = [
     [4, 2, 3, 0, 5, 1],
 ];
 
-// The 19 edges of a cube's tetrahedra: the corner at the anchor, the kind, and the corners at the ends.
-const LOCALS: [[usize; 4]; 19] = [
-    [0, 0, 0, 1],
-    [0, 1, 0, 2],
-    [0, 2, 0, 4],
-    [0, 3, 2, 4],
-    [0, 4, 1, 4],
-    [0, 5, 2, 1],
-    [0, 6, 3, 4],
-    [1, 1, 1, 3],
-    [1, 2, 1, 5],
-    [1, 3, 3, 5],
-    [2, 0, 2, 3],
-    [2, 2, 2, 6],
-    [2, 4, 3, 6],
-    [3, 2, 3, 7],
-    [4, 0, 4, 5],
-    [4, 1, 4, 6],
-    [4, 5, 6, 5],
-    [5, 1, 5, 7],
-    [6, 0, 6, 7],
-];
+// The corners at the anchors of the 19 edges of a cube's tetrahedra: octal digit j, from the right, is that of edge j.
+const LOCAL_LOWS: usize = 0o6544432221110000000;
+
+// Their kinds, likewise.
+const LOCAL_KINDS: usize = 0o0151024203216543210;
+
+// Their first ends, likewise.
+const LOCAL_FIRSTS: usize = 0o6564433223113212000;
+
+// Their second ends, likewise.
+const LOCAL_SECONDS: usize = 0o7756576635534144421;
 
 fn tet_corner(t: usize, j: usize) -> usize
     requires { ⌜ (t < 6) × (j < 4) ⌝ }
@@ -119,7 +108,7 @@ pub fn row_count(r: usize) -> usize
     requires { ⌜ r < 16 ⌝ }
     ensures { λ n. ⌜ (n ≡ rowCount r) × (n ≤ 2) ⌝ }
 {
-    COUNTS[r]
+    sides::digit(COUNTS, r)
 }
 
 // The edge of a row's triangles at j, three to a triangle: 0 for e1.
@@ -189,7 +178,7 @@ fn local_at(j: usize, k: usize) -> usize
     requires { ⌜ (j < 19) × (k < 4) ⌝ }
     ensures { λ r. ⌜ (r ≡ localAt j k) × (r < 8) ⌝ }
 {
-    LOCALS[j][k]
+    sides::digit_of(LOCAL_LOWS, LOCAL_KINDS, LOCAL_FIRSTS, LOCAL_SECONDS, k, j)
 }
 
 // Whether the ends of edge j of the 19 are on different sides in a cube with pattern m.
