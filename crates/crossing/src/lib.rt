@@ -65,21 +65,25 @@ fn record_of(samples: &[i16], sizes: Sizes, e: usize, s: Place, a: Place) -> Ver
     }
 }
 
-// The ends of the edges of each kind, as corners from the anchor: R adds 1, T 2, F 4.
-const KINDS: [[usize; 2]; 7] = [[0, 1], [0, 2], [0, 4], [2, 4], [1, 4], [2, 1], [3, 4]];
+// The first ends of the edges of each kind, as corners from the anchor: R adds 1, T 2, F 4. Octal digit k, from the right, is that of
+// kind k.
+const FIRST_ENDS: usize = 0o3212000;
+
+// Their second ends, likewise.
+const SECOND_ENDS: usize = 0o4144421;
 
 fn first_end(kind: usize) -> usize
     requires { ⌜ kind < 7 ⌝ }
     ensures { λ r. ⌜ (r ≡ endsOf kind .a) × (r < 8) ⌝ }
 {
-    KINDS[kind][0]
+    sides::digit(FIRST_ENDS, kind)
 }
 
 fn second_end(kind: usize) -> usize
     requires { ⌜ kind < 7 ⌝ }
     ensures { λ r. ⌜ (r ≡ endsOf kind .b) × (r < 8) ⌝ }
 {
-    KINDS[kind][1]
+    sides::digit(SECOND_ENDS, kind)
 }
 
 // The sample at a corner of the cube at p.

@@ -32,6 +32,14 @@ quarterAt s i row layer = sideNo s i + 4 * sideNo s (i + row) + 16 * sideNo s (i
 unfoldable pub bitOf : ℕ → ℕ → ℕ
 bitOf m c = m / 2 ^ c % 2
 
+-- digit i, from the right, of a word of octal digits: three bits each
+unfoldable pub digitOf : ℕ → ℕ → ℕ
+digitOf w i = w / 2 ^ (3 * i) % 8
+
+-- word k of four
+unfoldable pub ofFour : ℕ → ℕ → ℕ → ℕ → ℕ → ℕ
+ofFour a b c d k = getD (a ∷ b ∷ c ∷ d ∷ []) k 0
+
 -- the pattern of a crossed cube
 unfoldable pub crossedBy : ℕ → Bool
 crossedBy m = not (eqb m 0) && not (eqb m 255)

@@ -8,7 +8,7 @@ ghost use lib.ListN.{length};
 ghost use Rattle.paper.specs.Lattice.{lattice, air, cubeNo, crossed, lowest};
 ghost use Rattle.paper.specs.Sheet.{weight};
 ghost use Rattle.paper.specs.Within.{Sized, Full, CubeIn};
-ghost use Rattle.sides.specs.Pattern.{patternAt, bitOf, crossedBy, faceCorner, mixedBy, sideNo, quarterAt, faceAt, neighbours};
+ghost use Rattle.sides.specs.Pattern.{patternAt, bitOf, digitOf, ofFour, crossedBy, faceCorner, mixedBy, sideNo, quarterAt, faceAt, neighbours};
 
 // Above 0 is air.
 pub fn is_air(v: i16) -> bool
@@ -103,21 +103,48 @@ pub fn bit(m: usize, c: usize) -> usize
     (m >> c) % 2
 }
 
-// The corners of the faces at the low and the high x, y and z end.
-const FACES: [[usize; 4]; 6] = [
-    [0, 2, 4, 6],
-    [1, 3, 5, 7],
-    [0, 1, 4, 5],
-    [2, 3, 6, 7],
-    [0, 1, 2, 3],
-    [4, 5, 6, 7],
-];
+// Digit i, from the right, of a word of octal digits.
+pub fn digit(word: usize, i: usize) -> usize
+    requires { ⌜ i < 21 ⌝ }
+    ensures { λ r. ⌜ (r ≡ digitOf word i) × (r < 8) ⌝ }
+{
+    (word >> (3 * i)) % 8
+}
+
+// Digit i of word k of four.
+pub fn digit_of(a: usize, b: usize, c: usize, d: usize, k: usize, i: usize) -> usize
+    requires { ⌜ (k < 4) × (i < 21) ⌝ }
+    ensures { λ r. ⌜ (r ≡ digitOf (ofFour a b c d k) i) × (r < 8) ⌝ }
+{
+    if k == 0 {
+        return digit(a, i);
+    }
+    if k == 1 {
+        return digit(b, i);
+    }
+    if k == 2 {
+        return digit(c, i);
+    }
+    digit(d, i)
+}
+
+// The first corners of the faces at the low and the high x, y and z end: octal digit f, from the right, is that of face f.
+const FIRSTS: usize = 0o402010;
+
+// Their second corners, likewise.
+const SECONDS: usize = 0o513132;
+
+// Their third corners, likewise.
+const THIRDS: usize = 0o626454;
+
+// Their fourth corners, likewise.
+const FOURTHS: usize = 0o737576;
 
 fn face_corner(f: usize, j: usize) -> usize
     requires { ⌜ (f < 6) × (j < 4) ⌝ }
     ensures { λ r. ⌜ (r ≡ faceCorner f j) × (r < 8) ⌝ }
 {
-    FACES[f][j]
+    digit_of(FIRSTS, SECONDS, THIRDS, FOURTHS, j, f)
 }
 
 // The side of corner j of face f in a pattern.

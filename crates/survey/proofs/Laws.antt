@@ -12,11 +12,13 @@ use lib.ListN.{length, getD, set, drop, length-set, length-append}
 use lib.Seq.{set-at, getD-at, drop-cons, getD-set-same, getD-set-other}
 use borrow.Author.Tests.{eq-eqb, ne-eqb}
 use Rattle.lists.specs.Lists.{range, consIf, keep, each, isIn}
-use Rattle.lists.proofs.Runs.{range-snoc, keep-snoc, each-append, length-along, along-snoc}
+use Rattle.lists.proofs.Every.{each-le}
+use Rattle.lists.proofs.Runs.{range-snoc, keep-snoc, each-append, length-along, at-along, along-snoc}
 use Rattle.paper.specs.declared.Sizes.{Sizes}
 use Rattle.paper.specs.Tables.{Tri, rows}
+use Rattle.paper.proofs.Tables.{row-short}
 use Rattle.tetra.specs.Cut.{rowBy, rowCount, localSplit}
-use Rattle.survey.specs.Marks.{marks, used, usedOf, edgesFrom, countBy, edgesIn, trianglesIn, edgesUpto, trianglesUpto, numberIn}
+use Rattle.survey.specs.Marks.{marks, used, usedOf, edgesFrom, countBy, counts, edgesIn, trianglesIn, edgesUpto, trianglesUpto, numberIn}
 
 -- ── marks ──
 
@@ -98,6 +100,14 @@ count-row m t =
 pub count-all : (m : ℕ) → countTo m 6 ≡ countBy m
 unfolding countTo countBy
 count-all m = refl
+
+pub count-few : (m : ℕ) → countBy m ≤ 12
+unfolding countBy
+count-few m = each-le (λ t. getD rows (rowBy m t) []) 2 (λ t. row-short (rowBy m t)) (range 0 6)
+
+pub count-at : (m : ℕ) → m < 256 → getD counts m 0 ≡ countBy m
+unfolding counts
+count-at m h = at-along countBy 0 256 m h
 
 module _ (z : Sizes) (words : List ℕ) (k : ℕ) where
   pub marks-more : (l : List ℕ) → marks (edgesIn z words k) (marks (edgesUpto z words k) l) ≡ marks (edgesUpto z words (k + 1)) l

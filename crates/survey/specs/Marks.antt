@@ -34,9 +34,12 @@ edgesFrom steps base m = map (λ j. base + getD steps j 0) (keep (localSplit m) 
 unfoldable pub edgesWord : List ℕ → ℕ → ℕ → List ℕ
 edgesWord steps base word = cond (eqb word 0) [] (edgesFrom steps base (word % 256))
 
--- how many triangles a cube with pattern m has, and one with a word
+-- how many triangles a cube with pattern m has, one with each pattern, and one with a word
 unfoldable pub countBy : ℕ → ℕ
 countBy m = length (each (λ t. getD rows (rowBy m t) []) (range 0 6))
+
+unfoldable pub counts : List ℕ
+counts = map countBy (range 0 256)
 
 unfoldable pub countWord : ℕ → ℕ
 countWord word = cond (eqb word 0) 0 (countBy (word % 256))

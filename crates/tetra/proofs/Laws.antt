@@ -24,7 +24,7 @@ use Rattle.lattice.specs.Steps.{cornerStep}
 use Rattle.lattice.proofs.Laws.{corner-no, floor-few}
 use Rattle.sides.specs.Pattern.{patternAt, bitOf}
 use Rattle.sides.proofs.Laws.{pattern-bit}
-use Rattle.tetra.specs.Cut.{tetAt, tetCorner, tetEnds, rowBy, edgeStep, tetStep, tetSteps, rowCount, rowEdge, rowTriangles, trianglesBy, locals, localAt, localSplit, localStep, edgesBy}
+use Rattle.tetra.specs.Cut.{tetAt, tetCorner, tetCorners, tetEnds, rowBy, edgeStep, tetStep, tetSteps, rowCount, rowEdge, rowSteps, rowTriangles, trianglesBy, locals, localAt, localSplit, localStep, edgesBy}
 use Rattle.tetra.proofs.Tables.{tet-corner-lt, low-lt, kind-lt, local-lt}
 
 -- ── steps are small ──
@@ -44,16 +44,29 @@ tet-step-small z s t j ht hj = omega (arith, corner-small z s (low (tetEnds t j)
 
 -- ── steps and rows at a place ──
 
+-- an entry of a list that goes by two numbers
+at-pair : (f : ℕ → ℕ → ℕ) (g h : ℕ → ℕ) (n k a b : ℕ) → k < n → g k ≡ a → h k ≡ b → getD (map (λ i. f (g i) (h i)) (range 0 n)) k 0 ≡ f a b
+at-pair f g h n k a b l p q = at-along (λ i. f (g i) (h i)) 0 n k l ∙ (λ i. f (p i) (q i))
+
+pub corner-at : (t j : ℕ) → t < 6 → j < 4 → getD tetCorners (4 * t + j) 0 ≡ tetCorner t j
+unfolding tetCorners
+corner-at t j ht hj = at-pair tetCorner (λ i. i / 4) (λ i. i % 4) 24 (4 * t + j) t j (omega arith) (omega arith) (omega arith)
+
 pub step-at : (z : Sizes) (t j : ℕ) → t < 6 → j < 6 → getD (tetSteps z) (6 * t + j) 0 ≡ tetStep z t j
 unfolding tetSteps
-step-at z t j ht hj =
-    at-along (λ i. tetStep z (i / 6) (i % 6)) 0 36 (6 * t + j) (omega arith)
-    ∙ (λ i. tetStep z (quotient i) (remainder i))
+step-at z t j ht hj = at-pair (tetStep z) (λ i. i / 6) (λ i. i % 6) 36 (6 * t + j) t j (omega arith) (omega arith) (omega arith)
+
+pub row-step-at : (z : Sizes) (t r j : ℕ) → t < 6 → r < 16 → j < 6 → getD (rowSteps z) (96 * t + (6 * r + j)) 0 ≡ tetStep z t (rowEdge r j)
+unfolding rowSteps
+row-step-at z t r j ht hr hj =
+    at-pair (λ t k. tetStep z t (rowEdge (k / 6) (k % 6))) (λ i. i / 96) (λ i. i % 96) 576 (96 * t + (6 * r + j)) t (6 * r + j)
+    (omega arith) (omega arith) (omega arith)
+    ∙ (λ i. tetStep z t (rowEdge (quotient i) (remainder i)))
   where
-    quotient : (6 * t + j) / 6 ≡ t
+    quotient : (6 * r + j) / 6 ≡ r
     quotient = omega arith
 
-    remainder : (6 * t + j) % 6 ≡ j
+    remainder : (6 * r + j) % 6 ≡ j
     remainder = omega arith
 
 -- the three numbers of triangle j of a list

@@ -1,16 +1,28 @@
 -- The code's tables are the definitions', each by a test at every entry. Assumes nothing.
 use mathlib.Core.Path.{_≡_}
-use mathlib.Core.Bool.{Bool, _&&_, _||_}
 use mathlib.Core.List.{List, [], _∷_}
-use Prim.Native.Nat.{ℕ, _-_, _*_, _≤_, _<_}
+use Prim.Native.Nat.{ℕ, _-_, _≤_, _<_}
 use native.Mathlib.Omega.{arith}
-use lib.Dec.{T, eqb, eqb→eq, ltb, ltb→lt, leb, leb→le}
+use lib.Dec.{eqb, eqb→eq, ltb, ltb→lt, leb, leb→le}
 use lib.ListN.{getD}
-use mathlib.Core.Logic.{inl, inr}
-use Rattle.lists.proofs.Member.{and3, or-cases}
-use Rattle.lists.proofs.Computed.{upto-at, grid, grid-at}
+use Rattle.lists.proofs.Computed.{upto-at, grid-at}
 use Rattle.paper.specs.Tables.{tets, rows, tetEdges, kinds, low, joins, kindOf}
 use Rattle.tetra.specs.Cut.{tetAt, tetCorner, tetEnds, rowCount, rowEdge, locals, localAt}
+
+-- the corners of tetrahedra
+unfoldable pub cornerTable : List (List ℕ)
+cornerTable =
+    (0 ∷ 2 ∷ 1 ∷ 4 ∷ [])
+    ∷ (3 ∷ 2 ∷ 4 ∷ 1 ∷ [])
+    ∷ (3 ∷ 2 ∷ 6 ∷ 4 ∷ [])
+    ∷ (3 ∷ 1 ∷ 4 ∷ 5 ∷ [])
+    ∷ (3 ∷ 4 ∷ 6 ∷ 5 ∷ [])
+    ∷ (3 ∷ 6 ∷ 7 ∷ 5 ∷ [])
+    ∷ []
+
+pub corner-is : (t j : ℕ) → t < 6 → j < 4 → getD (getD cornerTable t []) j 0 ≡ tetCorner t j
+unfolding cornerTable tetCorner tetAt tets
+corner-is t j ht hj = eqb→eq _ _ (grid-at 6 4 (λ t j. eqb (getD (getD cornerTable t []) j 0) (tetCorner t j)) tt t j ht hj)
 
 pub tet-corner-lt : (t j : ℕ) → t < 6 → j < 4 → tetCorner t j < 8
 unfolding tetCorner tetAt tets
@@ -54,13 +66,6 @@ unfolding tetEnds tetAt tets tetEdges low joins kinds kindOf
 kind-lt t j ht hj = ltb→lt (kindOf (tetEnds t j)) 7 (grid-at 6 6 (λ t j. ltb (kindOf (tetEnds t j)) 7) tt t j ht hj)
 
 -- counts and edges of rows
-unfoldable pub countTable : List ℕ
-countTable = 0 ∷ 1 ∷ 1 ∷ 2 ∷ 1 ∷ 2 ∷ 2 ∷ 1 ∷ 1 ∷ 2 ∷ 2 ∷ 1 ∷ 2 ∷ 1 ∷ 1 ∷ 0 ∷ []
-
-pub count-is : (r : ℕ) → r < 16 → getD countTable r 0 ≡ rowCount r
-unfolding countTable rowCount rows
-count-is r h = eqb→eq _ _ (upto-at 16 (λ r. eqb (getD countTable r 0) (rowCount r)) tt r h)
-
 pub count-le : (r : ℕ) → r < 16 → rowCount r ≤ 2
 unfolding rowCount rows
 count-le r h = leb→le (rowCount r) 2 (upto-at 16 (λ r. leb (rowCount r) 2) tt r h)
@@ -85,32 +90,16 @@ edgeTable =
     ∷ (0 ∷ 0 ∷ 0 ∷ 0 ∷ 0 ∷ 0 ∷ [])
     ∷ []
 
--- within a row's triangles the table has an edge, e1 to e6
-edge-test : ℕ → ℕ → Bool
-unfolding edgeTable rowEdge rowCount rows
-edge-test r j =
-    leb (3 * rowCount r) j
-    || (eqb (getD (getD edgeTable r []) j 0 - 1) (rowEdge r j) && ltb 0 (getD (getD edgeTable r []) j 0) && ltb (getD (getD edgeTable r []) j 0) 7)
+pub edge-is : (r j : ℕ) → r < 16 → j < 6 → getD (getD edgeTable r []) j 0 - 1 ≡ rowEdge r j
+unfolding edgeTable rowEdge rows
+edge-is r j hr hj = eqb→eq _ _ (grid-at 16 6 (λ r j. eqb (getD (getD edgeTable r []) j 0 - 1) (rowEdge r j)) tt r j hr hj)
 
-edge-all : T (grid 16 6 edge-test)
-unfolding edge-test
-edge-all = tt
+pub edge-lt : (r j : ℕ) → r < 16 → j < 6 → getD (getD edgeTable r []) j 0 < 7
+unfolding edgeTable
+edge-lt r j hr hj = ltb→lt _ 7 (grid-at 16 6 (λ r j. ltb (getD (getD edgeTable r []) j 0) 7) tt r j hr hj)
 
-pub record EdgeAt (r j : ℕ) : Type 0 where
-  pub is : getD (getD edgeTable r []) j 0 - 1 ≡ rowEdge r j
-  pub some : 0 < getD (getD edgeTable r []) j 0
-  pub six : getD (getD edgeTable r []) j 0 < 7
-
-pub edge-at : (r j : ℕ) → r < 16 → j < 3 * rowCount r → EdgeAt r j
-unfolding edge-test
-edge-at r j hr hj =
-    let e = getD (getD edgeTable r []) j 0 in
-    let w = and3 (eqb (e - 1) (rowEdge r j)) (ltb 0 e) (ltb e 7) in
-    elim (or-cases (leb (3 * rowCount r) j) (eqb (e - 1) (rowEdge r j) && ltb 0 e && ltb e 7)
-    (grid-at 16 6 edge-test edge-all r j hr (omega (arith, count-le r hr)))) [
-      | inl q ↦ absurd (omega (arith, leb→le (3 * rowCount r) j q))
-      | inr q ↦ record { is = eqb→eq (e - 1) (rowEdge r j) (w q .0); some = ltb→lt 0 e (w q .1); six = ltb→lt e 7 (w q .2) }
-    ]
+pub edge-six : (r j : ℕ) → r < 16 → j < 6 → rowEdge r j < 6
+edge-six r j hr hj = omega (arith, edge-is r j hr hj, edge-lt r j hr hj)
 
 -- the 19 edges
 pub local-lt : (j k : ℕ) → j < 19 → k < 4 → localAt j k < 8

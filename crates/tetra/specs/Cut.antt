@@ -23,6 +23,10 @@ tetAt t = getD tets t (tet 0 0 0 0)
 unfoldable pub tetCorner : ℕ → ℕ → ℕ
 tetCorner t j = getD (tetAt t .a ∷ tetAt t .b ∷ tetAt t .c ∷ tetAt t .d ∷ []) j 0
 
+-- the corners of all, four to a tetrahedron
+unfoldable pub tetCorners : List ℕ
+tetCorners = map (λ i. tetCorner (i / 4) (i % 4)) (range 0 24)
+
 unfoldable pub tetEnds : ℕ → ℕ → Ends
 tetEnds t j = getD (tetEdges (tetAt t)) j (ends 0 0)
 
@@ -46,6 +50,10 @@ rowCount r = length (getD rows r [])
 
 unfoldable pub rowEdge : ℕ → ℕ → ℕ
 rowEdge r j = getD (each corners3 (getD rows r [])) j 0 - 1
+
+-- the steps of the edges of all rows' triangles: three to a triangle, six to a row, 96 to a tetrahedron; past a row's last, that of e1
+unfoldable pub rowSteps : Sizes → List ℕ
+rowSteps z = map (λ i. tetStep z (i / 96) (rowEdge (i % 96 / 6) (i % 96 % 6))) (range 0 576)
 
 -- the triangles of row r of tetrahedron t, by lattice edges, in a cube of whose lowest sample 7 × the number is base
 unfoldable pub rowTriangles : Sizes → ℕ → ℕ → ℕ → List Tri

@@ -1,13 +1,13 @@
 // Six tetrahedra and sixteen rows: the edges and the triangles of a cube, by its pattern.
 use paper::Sizes;
 ghost use mathlib.Core.Path.{_≡_};
-ghost use Prim.Native.Nat.{_+_, _*_, _≤_, _<_};
+ghost use Prim.Native.Nat.{_+_, _*_, _≤_, _<_, _-_};
 ghost use lib.ListN.{getD};
 ghost use Rattle.paper.specs.Tables.{tri};
 ghost use Rattle.paper.specs.Within.{Sized};
 ghost use Rattle.lattice.specs.Steps.{cornerStep};
 ghost use Rattle.sides.specs.Pattern.{bitOf};
-ghost use Rattle.tetra.specs.Cut.{tetCorner, tetStep, tetSteps, rowBy, rowEdge, rowCount, rowTriangles, triOf, localAt, localSplit, localStep, localSteps};
+ghost use Rattle.tetra.specs.Cut.{tetCorner, tetCorners, tetStep, tetSteps, rowBy, rowCount, rowSteps, rowTriangles, triOf, localAt, localSplit, localStep, localSteps};
 
 // A triangle by its lattice edges.
 pub struct Triangle {
@@ -46,8 +46,8 @@ const ROWS: [[usize; 6]; 16] = [
     [0, 0, 0, 0, 0, 0],
 ];
 
-// How many triangles each row has.
-const COUNTS: [usize; 16] = [0, 1, 1, 2, 1, 2, 2, 1, 1, 2, 2, 1, 2, 1, 1, 0];
+// How many triangles each row has: octal digit r, from the right, is that of row r.
+const COUNTS: usize = 0o0112122112212110;
 
 // The corner at the anchor, and the kind, of edges e1 to e6 of each tetrahedron.
 const LOWS: [[usize; 6]; 6] = [
@@ -68,50 +68,50 @@ const KINDS: [[usize; 6]; 6] = [
     [4, 2, 3, 0, 5, 1],
 ];
 
-// The 19 edges of a cube's tetrahedra: the corner at the anchor, the kind, and the corners at the ends.
-const LOCALS: [[usize; 4]; 19] = [
-    [0, 0, 0, 1],
-    [0, 1, 0, 2],
-    [0, 2, 0, 4],
-    [0, 3, 2, 4],
-    [0, 4, 1, 4],
-    [0, 5, 2, 1],
-    [0, 6, 3, 4],
-    [1, 1, 1, 3],
-    [1, 2, 1, 5],
-    [1, 3, 3, 5],
-    [2, 0, 2, 3],
-    [2, 2, 2, 6],
-    [2, 4, 3, 6],
-    [3, 2, 3, 7],
-    [4, 0, 4, 5],
-    [4, 1, 4, 6],
-    [4, 5, 6, 5],
-    [5, 1, 5, 7],
-    [6, 0, 6, 7],
-];
+// The corners at the anchors of the 19 edges of a cube's tetrahedra: octal digit j, from the right, is that of edge j.
+const LOCAL_LOWS: usize = 0o6544432221110000000;
 
-fn tet_corner(t: usize, j: usize) -> usize
-    requires { ⌜ (t < 6) × (j < 4) ⌝ }
-    ensures { λ r. ⌜ (r ≡ tetCorner t j) × (r < 8) ⌝ }
+// Their kinds, likewise.
+const LOCAL_KINDS: usize = 0o0151024203216543210;
+
+// Their first ends, likewise.
+const LOCAL_FIRSTS: usize = 0o6564433223113212000;
+
+// Their second ends, likewise.
+const LOCAL_SECONDS: usize = 0o7756576635534144421;
+
+// Corners a to d of all tetrahedra, four to each.
+pub fn tet_corners() -> [usize; 24]
+    ensures { λ r. ⌜ r ≡ tetCorners ⌝ }
 {
-    TETS[t][j]
+    let tets = TETS;
+    let mut corners = [0usize; 24];
+    let mut i = 0;
+    while i < 24 {
+        corners[i] = tets[i / 4][i % 4];
+        i += 1;
+    }
+    corners
 }
 
 // The side of corner j of tetrahedron t in a pattern.
-fn tet_bit(m: usize, t: usize, j: usize) -> usize
-    requires { ⌜ (t < 6) × (j < 4) ⌝ }
+fn tet_bit(corners: &[usize; 24], m: usize, t: usize, j: usize) -> usize
+    requires { ⌜ (now corners ≡ tetCorners) × (t < 6) × (j < 4) ⌝ }
     ensures { λ r. ⌜ (r ≡ bitOf m (tetCorner t j)) × (r ≤ 1) ⌝ }
 {
-    sides::bit(m, tet_corner(t, j))
+    sides::bit(m, corners[4 * t + j])
 }
 
 // The row of tetrahedron t in a cube with pattern m.
-pub fn row(m: usize, t: usize) -> usize
-    requires { ⌜ t < 6 ⌝ }
+pub fn row(corners: &[usize; 24], m: usize, t: usize) -> usize
+    requires { ⌜ (now corners ≡ tetCorners) × (t < 6) ⌝ }
     ensures { λ r. ⌜ (r ≡ rowBy m t) × (r < 16) ⌝ }
 {
-    8 * tet_bit(m, t, 0) + 4 * tet_bit(m, t, 1) + 2 * tet_bit(m, t, 2) + tet_bit(m, t, 3)
+    let a = tet_bit(corners, m, t, 0);
+    let b = tet_bit(corners, m, t, 1);
+    let c = tet_bit(corners, m, t, 2);
+    let d = tet_bit(corners, m, t, 3);
+    8 * a + 4 * b + 2 * c + d
 }
 
 // How many triangles a row has.
@@ -119,15 +119,7 @@ pub fn row_count(r: usize) -> usize
     requires { ⌜ r < 16 ⌝ }
     ensures { λ n. ⌜ (n ≡ rowCount r) × (n ≤ 2) ⌝ }
 {
-    COUNTS[r]
-}
-
-// The edge of a row's triangles at j, three to a triangle: 0 for e1.
-fn row_edge(r: usize, j: usize) -> usize
-    requires { ⌜ (r < 16) × (j < 3 * rowCount r) ⌝ }
-    ensures { λ e. ⌜ (e ≡ rowEdge r j) × (e < 6) ⌝ }
-{
-    ROWS[r][j] - 1
+    sides::digit(COUNTS, r)
 }
 
 // How far the sample at a corner is from the cube's lowest.
@@ -148,7 +140,7 @@ fn tet_step(sizes: Sizes, t: usize, j: usize) -> usize
 }
 
 // The same of all, six to a tetrahedron.
-pub fn tet_steps(sizes: Sizes) -> [usize; 36]
+fn tet_steps(sizes: Sizes) -> [usize; 36]
     requires { ⌜ Sized sizes ⌝ }
     ensures { λ r. ⌜ r ≡ tetSteps sizes ⌝ }
 {
@@ -161,26 +153,51 @@ pub fn tet_steps(sizes: Sizes) -> [usize; 36]
     steps
 }
 
+// The step of edge e, of e1 to e6, of tetrahedron t; that of e1 where e is 0.
+fn edge_step(steps: &[usize; 36], t: usize, e: usize) -> usize
+    requires { ⌜ (t < 6) × (e < 7) ⌝ }
+    ensures { λ r. ⌜ r ≡ getD (now (steps .entry)) (6 * t + (e - 1)) 0 ⌝ }
+{
+    if e == 0 {
+        return steps[6 * t];
+    }
+    steps[6 * t + (e - 1)]
+}
+
+// The steps of the edges of the triangles of all rows, three to a triangle, six to a row, 96 to a tetrahedron.
+pub fn row_steps(sizes: Sizes) -> [usize; 576]
+    requires { ⌜ Sized sizes ⌝ }
+    ensures { λ r. ⌜ r ≡ rowSteps sizes ⌝ }
+{
+    let rows = ROWS;
+    let steps = tet_steps(sizes);
+    let mut all = [0usize; 576];
+    let mut i = 0;
+    while i < 576 {
+        let k = i % 96;
+        all[i] = edge_step(&steps, i / 96, rows[k / 6][k % 6]);
+        i += 1;
+    }
+    all
+}
+
 // Triangle j of row r of tetrahedron t, in a cube of whose lowest sample 7 × the number is base.
 pub fn row_triangle(
     sizes: Sizes,
-    steps: &[usize; 36],
+    steps: &[usize; 576],
     base: usize,
     t: usize,
     r: usize,
     j: usize,
 ) -> Triangle
-    requires { ⌜ Sized sizes × (now steps ≡ tetSteps sizes) × (t < 6) × (r < 16) × (j < rowCount r) × (base ≤ 2000000) ⌝ }
+    requires { ⌜ Sized sizes × (now steps ≡ rowSteps sizes) × (t < 6) × (r < 16) × (j < rowCount r) × (base ≤ 2000000) ⌝ }
     ensures { λ g. ⌜ triOf g ≡ getD (rowTriangles sizes base t r) j (tri 0 0 0) ⌝ }
 {
-    let at = 6 * t;
-    let a = row_edge(r, 3 * j);
-    let b = row_edge(r, 3 * j + 1);
-    let c = row_edge(r, 3 * j + 2);
+    let at = 96 * t + 6 * r + 3 * j;
     Triangle {
-        a: base + steps[at + a],
-        b: base + steps[at + b],
-        c: base + steps[at + c],
+        a: base + steps[at],
+        b: base + steps[at + 1],
+        c: base + steps[at + 2],
     }
 }
 
@@ -189,7 +206,7 @@ fn local_at(j: usize, k: usize) -> usize
     requires { ⌜ (j < 19) × (k < 4) ⌝ }
     ensures { λ r. ⌜ (r ≡ localAt j k) × (r < 8) ⌝ }
 {
-    LOCALS[j][k]
+    sides::digit_of(LOCAL_LOWS, LOCAL_KINDS, LOCAL_FIRSTS, LOCAL_SECONDS, k, j)
 }
 
 // Whether the ends of edge j of the 19 are on different sides in a cube with pattern m.

@@ -22,7 +22,7 @@ use Rattle.paper.proofs.Numbers.{sample-lt, cube-inside, corner-inside}
 use Rattle.lattice.specs.Steps.{cornerStep}
 use Rattle.lattice.proofs.Laws.{corner-no}
 use Rattle.tetra.specs.Cut.{tetEnds, edgeStep, tetStep, rowBy, rowCount, rowEdge, rowTriangles, trianglesBy}
-use Rattle.tetra.proofs.Tables.{low-lt, kind-lt, EdgeAt, edge-at}
+use Rattle.tetra.proofs.Tables.{low-lt, kind-lt, count-le, edge-six}
 use Rattle.tetra.proofs.Laws.{row-triangle}
 use Rattle.survey.specs.Marks.{baseOf, trianglesIn, trianglesUpto}
 use Rattle.survey.proofs.Laws.{each-more, each-prefix}
@@ -104,12 +104,10 @@ pub record Below (long : ℕ) (g : Tri) : Type 0 where
   pub b : g .b < long
   pub c : g .c < long
 
-edge-six : (r j : ℕ) → r < 16 → j < 3 * rowCount r → rowEdge r j < 6
-edge-six r j hr hj = let e = edge-at r j hr hj in omega (arith, e)
-
 pub row-below : (z : Sizes) (base t r j long : ℕ) → TetSlotted z base long → t < 6 → r < 16 → j < rowCount r
     → Below long (getD (rowTriangles z base t r) j (tri 0 0 0))
 row-below z base t r j long w ht hr hj =
+    let two : j < 2 = omega (arith, count-le r hr) in
     subst (Below long) (sym (row-triangle z base t r j hj))
     (record {
       a = w .below t (rowEdge r (3 * j)) ht (edge-six r (3 * j) hr (omega arith));

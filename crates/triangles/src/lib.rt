@@ -11,7 +11,7 @@ ghost use Rattle.paper.specs.Lattice.{cubes};
 ghost use Rattle.paper.specs.Sheet.{corners3};
 ghost use Rattle.paper.specs.Build.{neededSlots};
 ghost use Rattle.paper.specs.Within.{Sized};
-ghost use Rattle.tetra.specs.Cut.{triOf, tetSteps, rowTriangles, trianglesBy};
+ghost use Rattle.tetra.specs.Cut.{triOf, tetCorners, rowSteps, rowTriangles, trianglesBy};
 ghost use Rattle.survey.specs.Marks.{trianglesUpto};
 ghost use Rattle.triangles.specs.Named.{byNumber, wordsFor, trianglesWord, TetSlotted};
 
@@ -46,12 +46,12 @@ fn put_row(
     at: usize,
     slots: &[u32],
     sizes: Sizes,
-    steps: &[usize; 36],
+    steps: &[usize; 576],
     base: usize,
     t: usize,
     r: usize,
 ) -> usize
-    requires { ⌜ Sized sizes × (now steps ≡ tetSteps sizes) × (t < 6) × (r < 16) × (base ≤ 2000000) ⌝ }
+    requires { ⌜ Sized sizes × (now steps ≡ rowSteps sizes) × (t < 6) × (r < 16) × (base ≤ 2000000) ⌝ }
     requires { ⌜ TetSlotted sizes base (length (now slots)) × (3 * (at + length (rowTriangles sizes base t r)) ≤ length (now triangles)) ⌝ }
     ensures { λ n. ⌜ (now (triangles .exit) ≡ sets (now (triangles .entry)) (3 * at) (wordsFor (now (slots .entry)) (rowTriangles sizes base t r))) × (n ≡ at + length (rowTriangles sizes base t r)) ⌝ }
 {
@@ -71,18 +71,19 @@ fn put_cube(
     at: usize,
     slots: &[u32],
     sizes: Sizes,
-    steps: &[usize; 36],
+    corners: &[usize; 24],
+    steps: &[usize; 576],
     base: usize,
     m: usize,
 ) -> usize
-    requires { ⌜ Sized sizes × (now steps ≡ tetSteps sizes) × (base ≤ 2000000) ⌝ }
+    requires { ⌜ Sized sizes × (now corners ≡ tetCorners) × (now steps ≡ rowSteps sizes) × (base ≤ 2000000) ⌝ }
     requires { ⌜ TetSlotted sizes base (length (now slots)) × (3 * (at + length (trianglesBy sizes base m)) ≤ length (now triangles)) ⌝ }
     ensures { λ n. ⌜ (now (triangles .exit) ≡ sets (now (triangles .entry)) (3 * at) (wordsFor (now (slots .entry)) (trianglesBy sizes base m))) × (n ≡ at + length (trianglesBy sizes base m)) ⌝ }
 {
     let mut next = at;
     let mut t = 0;
     while t < 6 {
-        let r = tetra::row(m, t);
+        let r = tetra::row(corners, m, t);
         next = put_row(triangles, next, slots, sizes, steps, base, t, r);
         t += 1;
     }
@@ -95,11 +96,12 @@ fn put_word(
     at: usize,
     slots: &[u32],
     sizes: Sizes,
-    steps: &[usize; 36],
+    corners: &[usize; 24],
+    steps: &[usize; 576],
     base: usize,
     word: u16,
 ) -> usize
-    requires { ⌜ Sized sizes × (now steps ≡ tetSteps sizes) × (base ≤ 2000000) ⌝ }
+    requires { ⌜ Sized sizes × (now corners ≡ tetCorners) × (now steps ≡ rowSteps sizes) × (base ≤ 2000000) ⌝ }
     requires { ⌜ TetSlotted sizes base (length (now slots)) × (3 * (at + length (trianglesWord sizes base word)) ≤ length (now triangles)) ⌝ }
     ensures { λ n. ⌜ (now (triangles .exit) ≡ sets (now (triangles .entry)) (3 * at) (wordsFor (now (slots .entry)) (trianglesWord sizes base word))) × (n ≡ at + length (trianglesWord sizes base word)) ⌝ }
 {
@@ -107,7 +109,7 @@ fn put_word(
         return at;
     }
     let m = (word % 256) as usize;
-    put_cube(triangles, at, slots, sizes, steps, base, m)
+    put_cube(triangles, at, slots, sizes, corners, steps, base, m)
 }
 
 // The triangles of all cubes that have a word are written to the front of a triangle slice.
@@ -117,13 +119,23 @@ pub fn put_triangles(words: &[u16], sizes: Sizes, slots: &[u32], triangles: &mut
     ensures { λ _. ⌜ now (triangles .exit) ≡ over (wordsFor (now (slots .entry)) (trianglesUpto sizes (now (words .entry)) (cubes sizes))) (now (triangles .entry)) ⌝ }
 {
     let n = lattice::cube_count(sizes);
-    let steps = tetra::tet_steps(sizes);
+    let corners = tetra::tet_corners();
+    let steps = tetra::row_steps(sizes);
     let mut at = 0;
     let mut k = 0;
     let mut p = Place { x: 0, y: 0, z: 0 };
     while k < n {
         let base = 7 * lattice::sample_no(sizes, p);
-        at = put_word(triangles, at, slots, sizes, &steps, base, words[k]);
+        at = put_word(
+            triangles,
+            at,
+            slots,
+            sizes,
+            &corners,
+            &steps,
+            base,
+            words[k],
+        );
         p = lattice::next_cube(sizes, p);
         k += 1;
     }

@@ -11,7 +11,7 @@ ghost use Rattle.paper.specs.Build.{neededSlots};
 ghost use Rattle.paper.specs.File.{fileV, fileT, fileVertices, fileTriangles};
 ghost use Rattle.paper.specs.Check.{sameTriangle, turned, cornerOf, triangleOf};
 ghost use Rattle.sides.specs.Pattern.{bitOf};
-ghost use Rattle.tetra.specs.Cut.{tetSteps, triOf};
+ghost use Rattle.tetra.specs.Cut.{tetCorners, rowSteps, triOf};
 ghost use Rattle.layout.specs.Laid.{LaidOut};
 ghost use Rattle.triples.specs.Triples.{Named, Among, holder, isAt, placeBy, placeIn, fresh, noted, Small, seenAfter, firstBadIn};
 
@@ -82,13 +82,21 @@ fn holder_of(sizes: Sizes, t: Triangle) -> usize
 }
 
 // Whether t is triangle c, two to a tetrahedron, of a cube with pattern m.
-fn is_at(sizes: Sizes, steps: &[usize; 36], base: usize, m: usize, t: Triangle, c: usize) -> bool
-    requires { ⌜ Sized sizes × (now steps ≡ tetSteps sizes) × (base ≤ 2000000) × (c < 12) ⌝ }
+fn is_at(
+    sizes: Sizes,
+    corners: &[usize; 24],
+    steps: &[usize; 576],
+    base: usize,
+    m: usize,
+    t: Triangle,
+    c: usize,
+) -> bool
+    requires { ⌜ Sized sizes × (now corners ≡ tetCorners) × (now steps ≡ rowSteps sizes) × (base ≤ 2000000) × (c < 12) ⌝ }
     ensures { λ r. ⌜ r ≡ isAt sizes base m (triOf t) c ⌝ }
 {
     let tet = c / 2;
     let j = c % 2;
-    let row = tetra::row(m, tet);
+    let row = tetra::row(corners, m, tet);
     if tetra::row_count(row) <= j {
         return false;
     }
@@ -97,13 +105,20 @@ fn is_at(sizes: Sizes, steps: &[usize; 36], base: usize, m: usize, t: Triangle, 
 }
 
 // The place of t in a cube with pattern m, or 12.
-fn place_by(sizes: Sizes, steps: &[usize; 36], base: usize, m: usize, t: Triangle) -> usize
-    requires { ⌜ Sized sizes × (now steps ≡ tetSteps sizes) × (base ≤ 2000000) ⌝ }
+fn place_by(
+    sizes: Sizes,
+    corners: &[usize; 24],
+    steps: &[usize; 576],
+    base: usize,
+    m: usize,
+    t: Triangle,
+) -> usize
+    requires { ⌜ Sized sizes × (now corners ≡ tetCorners) × (now steps ≡ rowSteps sizes) × (base ≤ 2000000) ⌝ }
     ensures { λ r. ⌜ (r ≡ placeBy sizes base m (triOf t)) × (r ≤ 12) ⌝ }
 {
     let mut c = 0;
     while c < 12 {
-        if is_at(sizes, steps, base, m, t, c) {
+        if is_at(sizes, corners, steps, base, m, t, c) {
             return c;
         }
         c += 1;
@@ -112,8 +127,15 @@ fn place_by(sizes: Sizes, steps: &[usize; 36], base: usize, m: usize, t: Triangl
 }
 
 // The place of t in cube k, or 12 where k is no visited cube.
-fn place_in(sizes: Sizes, words: &[u16], steps: &[usize; 36], k: usize, t: Triangle) -> usize
-    requires { ⌜ Sized sizes × (now steps ≡ tetSteps sizes) × (cubes sizes ≤ length (now words)) ⌝ }
+fn place_in(
+    sizes: Sizes,
+    words: &[u16],
+    corners: &[usize; 24],
+    steps: &[usize; 576],
+    k: usize,
+    t: Triangle,
+) -> usize
+    requires { ⌜ Sized sizes × (now corners ≡ tetCorners) × (now steps ≡ rowSteps sizes) × (cubes sizes ≤ length (now words)) ⌝ }
     ensures { λ r. ⌜ (r ≡ placeIn sizes (now (words .entry)) k (triOf t)) × (r ≤ 12) ⌝ }
 {
     if lattice::cube_count(sizes) <= k {
@@ -125,7 +147,7 @@ fn place_in(sizes: Sizes, words: &[u16], steps: &[usize; 36], k: usize, t: Trian
     }
     let p = lattice::cube_at(sizes, k);
     let base = 7 * lattice::sample_no(sizes, p);
-    place_by(sizes, steps, base, (word % 256) as usize, t)
+    place_by(sizes, corners, steps, base, (word % 256) as usize, t)
 }
 
 // Bit c of m.
@@ -145,13 +167,20 @@ fn power(c: usize) -> u32
 }
 
 // Whether t is a triangle of its cube whose bit is 0; if so, the bit becomes 1.
-fn note(sizes: Sizes, words: &[u16], steps: &[usize; 36], seen: &mut [u32], t: Triangle) -> bool
-    requires { ⌜ Sized sizes × (now steps ≡ tetSteps sizes) × Among (neededSlots sizes) (triOf t) ⌝ }
+fn note(
+    sizes: Sizes,
+    words: &[u16],
+    corners: &[usize; 24],
+    steps: &[usize; 576],
+    seen: &mut [u32],
+    t: Triangle,
+) -> bool
+    requires { ⌜ Sized sizes × (now corners ≡ tetCorners) × (now steps ≡ rowSteps sizes) × Among (neededSlots sizes) (triOf t) ⌝ }
     requires { ⌜ (cubes sizes ≤ length (now words)) × (cubes sizes ≤ length (now seen)) × Small (cubes sizes) (now seen) ⌝ }
     ensures { λ r. ⌜ (r ≡ fresh sizes (now (words .entry)) (now (seen .entry)) (triOf t)) × (now (seen .exit) ≡ cond r (noted sizes (now (words .entry)) (now (seen .entry)) (triOf t)) (now (seen .entry))) ⌝ }
 {
     let k = holder_of(sizes, t);
-    let c = place_in(sizes, words, steps, k, t);
+    let c = place_in(sizes, words, corners, steps, k, t);
     if c == 12 {
         return false;
     }
@@ -193,11 +222,12 @@ pub fn first_bad(sizes: Sizes, bytes: &[u8], words: &[u16], seen: &mut [u32]) ->
     let n = 7 * lattice::sample_count(sizes);
     let nv = layout::vertex_count(bytes);
     let nt = layout::triangle_count(bytes);
-    let steps = tetra::tet_steps(sizes);
+    let corners = tetra::tet_corners();
+    let steps = tetra::row_steps(sizes);
     let mut i = 0;
     while i < nt {
         let t = triangle_at(bytes, nv, n, i);
-        let good = note(sizes, words, &steps, seen, t);
+        let good = note(sizes, words, &corners, &steps, seen, t);
         if !good {
             return i;
         }

@@ -9,16 +9,16 @@ use Rattle.survey.proofs.count_cube.Statement.{statement}
 use Rattle.survey.proofs.count_cube.Tie as tie
 
 abbrev Inv-loop : tie.InvT-loop
-Inv-loop m n₀ t₀ n t = (t ≤ 6) × (n ≡ countTo m t) × (n ≤ 2 * t)
+Inv-loop corners m n₀ t₀ n t = (t ≤ 6) × (n ≡ countTo m t) × (n ≤ 2 * t)
 
 abbrev μ-loop : tie.MeasureT-loop
-μ-loop m n₀ t₀ n t = 6 - t
+μ-loop corners m n₀ t₀ n t = 6 - t
 
 loop-holds : tie.Need-loop-holds Inv-loop μ-loop
 loop-holds c = (omega arith, count-none _, omega arith)
 
 row-requires : tie.Need-row-requires Inv-loop μ-loop
-row-requires c κs = omega arith
+row-requires c κs = (c .before .before .pre, omega arith)
 
 row-count-requires : tie.Need-row-count-requires Inv-loop μ-loop
 row-count-requires c κs = search needs

@@ -1,26 +1,19 @@
--- The table is the definition's. Assumes nothing.
-use mathlib.Core.Path.{refl}
+-- The words' digits are the definition's. Assumes nothing.
+use Rattle.sides.specs.Pattern.{digitOf, ofFour}
+use Rattle.sides.proofs.Digits.{digits-are}
 use Rattle.tetra.specs.Cut.{locals, localAt}
-use Rattle.tetra.proofs.Tables.{local-lt}
 use borrow.Author.Needs.{needs}
 use Rattle.tetra.proofs.local_at.Statement.{statement}
 use Rattle.tetra.proofs.local_at.Tie as tie
 
-mul-result : tie.Need-mul-result
-mul-result c = search needs
-
-mul-result-2 : tie.Need-mul-result-2
-mul-result-2 c = search needs
-
-index-1-result : tie.Need-index-1-result
-index-1-result c = search needs
-
-index-2-result : tie.Need-index-2-result
-index-2-result c = search needs
+digit-of-requires : tie.Need-digit-of-requires
+digit-of-requires c κs = search needs
 
 returns : tie.Need-returns
-unfolding locals localAt
-returns c = (refl, local-lt _ _ (c .before .pre .0) (c .before .pre .1))
+unfolding digitOf ofFour locals localAt
+returns c =
+    let s = c .before in
+    (digits-are _ _ _ _ 19 localAt _ (s .args .j) (s .args .k) (c .digit-of .ensures .0) (s .pre .0) (s .pre .1) tt, c .digit-of .ensures .1)
 
 pub local-at-spec : {M : Type 1} → statement M
-local-at-spec = tie.close (tie.spec mul-result mul-result-2 index-1-result index-2-result returns)
+local-at-spec = tie.close (tie.spec digit-of-requires returns)

@@ -8,11 +8,17 @@ use Rattle.tetra.proofs.row.Tie as tie
 tet-bit-requires : tie.Need-tet-bit-requires
 tet-bit-requires c κs = search needs
 
-mul-result : tie.Need-mul-result
-mul-result c = search needs
-
 tet-bit-requires-2 : tie.Need-tet-bit-requires-2
 tet-bit-requires-2 c κs = search needs
+
+tet-bit-requires-3 : tie.Need-tet-bit-requires-3
+tet-bit-requires-3 c κs = search needs
+
+tet-bit-requires-4 : tie.Need-tet-bit-requires-4
+tet-bit-requires-4 c κs = search needs
+
+mul-result : tie.Need-mul-result
+mul-result c = search needs
 
 mul-result-2 : tie.Need-mul-result-2
 mul-result-2 c = search needs
@@ -20,17 +26,11 @@ mul-result-2 c = search needs
 add-result : tie.Need-add-result
 add-result c = search needs
 
-tet-bit-requires-3 : tie.Need-tet-bit-requires-3
-tet-bit-requires-3 c κs = search needs
-
 mul-result-3 : tie.Need-mul-result-3
 mul-result-3 c = search needs
 
 add-result-2 : tie.Need-add-result-2
 add-result-2 c = search needs
-
-tet-bit-requires-4 : tie.Need-tet-bit-requires-4
-tet-bit-requires-4 c κs = search needs
 
 add-result-3 : tie.Need-add-result-3
 add-result-3 c = search needs
@@ -49,13 +49,13 @@ row-spec =
     tie.close
     (tie.spec
     tet-bit-requires
-    mul-result
     tet-bit-requires-2
+    tet-bit-requires-3
+    tet-bit-requires-4
+    mul-result
     mul-result-2
     add-result
-    tet-bit-requires-3
     mul-result-3
     add-result-2
-    tet-bit-requires-4
     add-result-3
     returns)

@@ -1,19 +1,23 @@
--- The table is the definition's. Assumes nothing.
+-- The word's digits are the definition's. Assumes nothing.
 use native.Mathlib.Omega.{arith}
-use Rattle.tetra.proofs.Tables.{countTable, count-is, count-le}
+use Rattle.paper.specs.Tables.{rows}
+use Rattle.sides.specs.Pattern.{digitOf}
+use Rattle.sides.proofs.Digits.{digit-is}
+use Rattle.tetra.specs.Cut.{rowCount}
+use Rattle.tetra.proofs.Tables.{count-le}
 use borrow.Author.Needs.{needs}
 use Rattle.tetra.proofs.row_count.Statement.{statement}
 use Rattle.tetra.proofs.row_count.Tie as tie
 
-mul-result : tie.Need-mul-result
-mul-result c = search needs
-
-array-read-result : tie.Need-array-read-result
-array-read-result c = search needs
+digit-requires : tie.Need-digit-requires
+digit-requires c κs = search needs
 
 returns : tie.Need-returns
-unfolding countTable
-returns c = let h = c .pre in (count-is (c .args .r) h, omega (arith, count-is (c .args .r) h, count-le (c .args .r) h))
+unfolding digitOf rowCount rows
+returns c =
+    let r = c .before .args .r in
+    let e = digit-is _ 16 rowCount _ r (c .digit .ensures .0) (c .before .pre) tt in
+    (e, omega (arith, e, count-le r (c .before .pre)))
 
 pub row-count-spec : {M : Type 1} → statement M
-row-count-spec = tie.close (tie.spec mul-result array-read-result returns)
+row-count-spec = tie.close (tie.spec digit-requires returns)

@@ -1,121 +1,112 @@
 -- The three edges, each by its step. Assumes nothing.
 use borrow.Author.Needs.{needs}
-use mathlib.Core.Path.{_≡_, sym, ap, _∙_}
+use mathlib.Core.Path.{_≡_, sym, _∙_}
 use Prim.Native.Nat.{ℕ, _+_, _*_, _≤_, _<_}
 use native.Mathlib.Omega.{arith}
 use lib.ListN.{getD}
 use denote.Ref.{now}
 use Rattle.paper.specs.Tables.{tri}
-use Rattle.tetra.specs.Cut.{tetStep}
-use Rattle.tetra.proofs.Tables.{count-le}
-use Rattle.tetra.proofs.Laws.{step-at, row-triangle, tet-step-small}
+use Rattle.tetra.specs.Cut.{tetStep, rowEdge}
+use Rattle.tetra.proofs.Tables.{count-le, edge-six}
+use Rattle.tetra.proofs.Laws.{row-step-at, row-triangle, tet-step-small}
 use Rattle.tetra.proofs.row_triangle.Statement.{statement}
 use Rattle.tetra.proofs.row_triangle.Tie as tie
 
--- the step at an edge of the tetrahedron
-at : (s : tie.Start) (e : ℕ) → e < 6 → getD (now (s .args .steps)) (6 * s .args .t + e) 0 ≡ tetStep (s .args .sizes) (s .args .t) e
-at s e h =
-    ap (λ (l : _). getD l (6 * s .args .t + e) 0) (s .pre .1) ∙ step-at (s .args .sizes) (s .args .t) e (s .pre .2) h
+module _ (s : tie.Start) where
+  -- the triangle is one of two
+  two : s .args .j < 2
+  two = omega (arith, s .pre .4, count-le (s .args .r) (s .pre .3))
 
-small : (s : tie.Start) (e : ℕ) → e < 6 → getD (now (s .args .steps)) (6 * s .args .t + e) 0 ≤ 29133
-small s e h = omega (arith, at s e h, tet-step-small (s .args .sizes) (s .pre .0) (s .args .t) e (s .pre .2) h)
+  -- the step at an edge of the row
+  at : (i k : ℕ) → i ≡ 96 * s .args .t + (6 * s .args .r + k) → k < 6 → getD (now (s .args .steps)) i 0 ≡ tetStep (s .args .sizes) (s .args .t) (rowEdge (s .args .r) k)
+  at i k e h = (λ j. getD (s .pre .1 j) (e j) 0) ∙ row-step-at (s .args .sizes) (s .args .t) (s .args .r) k (s .pre .2) (s .pre .3) h
+
+  small : (i k : ℕ) → i ≡ 96 * s .args .t + (6 * s .args .r + k) → k < 6 → getD (now (s .args .steps)) i 0 ≤ 29133
+  small i k e h =
+      omega (arith, at i k e h, tet-step-small (s .args .sizes) (s .pre .0) (s .args .t) (rowEdge (s .args .r) k) (s .pre .2) (edge-six (s .args .r) k (s .pre .3) h))
 
 mul-at : tie.Need-mul-at
 mul-at c = search needs
 
-mul-row-edge : tie.Need-mul-row-edge
-mul-row-edge c = omega (arith, count-le (c .args .r) (c .pre .3))
+mul-at-2 : tie.Need-mul-at-2
+mul-at-2 c = search needs
 
-row-edge-requires : tie.Need-row-edge-requires
-row-edge-requires c κs = search needs
+add-at : tie.Need-add-at
+add-at c = search needs
 
-mul-row-edge-2 : tie.Need-mul-row-edge-2
-mul-row-edge-2 c = omega (arith, count-le (c .before .args .r) (c .before .pre .3))
+mul-at-3 : tie.Need-mul-at-3
+mul-at-3 c = omega (arith, two c)
 
-add-row-edge : tie.Need-add-row-edge
-add-row-edge c = omega (arith, count-le (c .before .args .r) (c .before .pre .3))
+add-at-2 : tie.Need-add-at-2
+add-at-2 c = omega (arith, two c)
 
-row-edge-requires-2 : tie.Need-row-edge-requires-2
-row-edge-requires-2 c κs = search needs
+mul-t8 : tie.Need-mul-t8
+mul-t8 c = omega (arith, two c)
 
-mul-row-edge-3 : tie.Need-mul-row-edge-3
-mul-row-edge-3 c = omega (arith, count-le (c .before .before .args .r) (c .before .before .pre .3))
+element-copy-out-t11 : tie.Need-element-copy-out-t11
+element-copy-out-t11 c = omega (arith, two c)
 
-add-row-edge-2 : tie.Need-add-row-edge-2
-add-row-edge-2 c = omega (arith, count-le (c .before .before .args .r) (c .before .before .pre .3))
+add-t10 : tie.Need-add-t10
+add-t10 c =
+    let s = c .before in
+    omega (arith, s .pre .5, small s (96 * s .args .t + 6 * s .args .r + 3 * s .args .j) (3 * s .args .j) (omega arith) (omega (arith, two s)))
 
-row-edge-requires-3 : tie.Need-row-edge-requires-3
-row-edge-requires-3 c κs = search needs
+add-t9 : tie.Need-add-t9
+add-t9 c = omega (arith, two (c .before))
 
-add-t11 : tie.Need-add-t11
-add-t11 c = search needs
+mul-t14 : tie.Need-mul-t14
+mul-t14 c = omega (arith, two (c .before))
 
-mul-t12 : tie.Need-mul-t12
-mul-t12 c = search needs
+element-copy-out-t17 : tie.Need-element-copy-out-t17
+element-copy-out-t17 c = omega (arith, two (c .before))
 
-element-copy-out-t15 : tie.Need-element-copy-out-t15
-element-copy-out-t15 c = search needs
+add-t18 : tie.Need-add-t18
+add-t18 c =
+    let s = c .before .before in
+    omega (arith, s .pre .5, small s (96 * s .args .t + 6 * s .args .r + 3 * s .args .j + 1) (3 * s .args .j + 1) (omega arith) (omega (arith, two s)))
 
-add-t16 : tie.Need-add-t16
-add-t16 c = omega (arith, small (c .before .before .before .before) (c .before .before .before .row-edge .result) (c .before .before .before .row-edge .ensures .1))
+add-t19 : tie.Need-add-t19
+add-t19 c = omega (arith, two (c .before .before))
 
-add-t17 : tie.Need-add-t17
-add-t17 c = search needs
+mul-t20 : tie.Need-mul-t20
+mul-t20 c = omega (arith, two (c .before .before))
 
-mul-t18 : tie.Need-mul-t18
-mul-t18 c = search needs
+element-copy-out-t23 : tie.Need-element-copy-out-t23
+element-copy-out-t23 c = omega (arith, two (c .before .before))
 
-element-copy-out-t21 : tie.Need-element-copy-out-t21
-element-copy-out-t21 c = search needs
-
-add-t22 : tie.Need-add-t22
-add-t22 c = omega (arith, small (c .before .before .before .before .before) (c .before .before .before .row-edge2 .result) (c .before .before .before .row-edge2 .ensures .1))
-
-add-t23 : tie.Need-add-t23
-add-t23 c = search needs
-
-mul-t24 : tie.Need-mul-t24
-mul-t24 c = search needs
-
-element-copy-out-t27 : tie.Need-element-copy-out-t27
-element-copy-out-t27 c = search needs
-
-add-t28 : tie.Need-add-t28
-add-t28 c = omega (arith, small (c .before .before .before .before .before .before) (c .before .before .before .row-edge3 .result) (c .before .before .before .row-edge3 .ensures .1))
+add-t24 : tie.Need-add-t24
+add-t24 c =
+    let s = c .before .before .before in
+    omega (arith, s .pre .5, small s (96 * s .args .t + 6 * s .args .r + 3 * s .args .j + 2) (3 * s .args .j + 2) (omega arith) (omega (arith, two s)))
 
 returns : tie.Need-returns
 returns c =
-    let s = c .before .before .before .before .before .before in
-    let z = s .args .sizes in
-    let t = s .args .t in
-    let a = at s (c .before .before .before .before .before .row-edge .result) (c .before .before .before .before .before .row-edge .ensures .1) ∙ ap (tetStep z t) (c .before .before .before .before .before .row-edge .ensures .0) in
-    let b = at s (c .before .before .before .before .row-edge2 .result) (c .before .before .before .before .row-edge2 .ensures .1) ∙ ap (tetStep z t) (c .before .before .before .before .row-edge2 .ensures .0) in
-    let d = at s (c .before .before .before .row-edge3 .result) (c .before .before .before .row-edge3 .ensures .1) ∙ ap (tetStep z t) (c .before .before .before .row-edge3 .ensures .0) in
-    (λ i. tri (s .args .base + a i) (s .args .base + b i) (s .args .base + d i)) ∙ sym (row-triangle z (s .args .base) t (s .args .r) (s .args .j) (s .pre .4))
+    let s = c .before .before .before in
+    let i = 96 * s .args .t + 6 * s .args .r + 3 * s .args .j in
+    let k = 3 * s .args .j in
+    let a = at s i k (omega arith) (omega (arith, two s)) in
+    let b = at s (i + 1) (k + 1) (omega arith) (omega (arith, two s)) in
+    let d = at s (i + 2) (k + 2) (omega arith) (omega (arith, two s)) in
+    (λ i. tri (s .args .base + a i) (s .args .base + b i) (s .args .base + d i)) ∙ sym (row-triangle (s .args .sizes) (s .args .base) (s .args .t) (s .args .r) (s .args .j) (s .pre .4))
 
 pub row-triangle-spec : {M : Type 1} → statement M
 row-triangle-spec =
     tie.close
     (tie.spec
     mul-at
-    mul-row-edge
-    row-edge-requires
-    mul-row-edge-2
-    add-row-edge
-    row-edge-requires-2
-    mul-row-edge-3
-    add-row-edge-2
-    row-edge-requires-3
-    add-t11
-    mul-t12
-    element-copy-out-t15
-    add-t16
-    add-t17
-    mul-t18
-    element-copy-out-t21
-    add-t22
-    add-t23
-    mul-t24
-    element-copy-out-t27
-    add-t28
+    mul-at-2
+    add-at
+    mul-at-3
+    add-at-2
+    mul-t8
+    element-copy-out-t11
+    add-t10
+    add-t9
+    mul-t14
+    element-copy-out-t17
+    add-t18
+    add-t19
+    mul-t20
+    element-copy-out-t23
+    add-t24
     returns)

@@ -15,10 +15,10 @@ use Rattle.triangles.proofs.put_cube.Statement.{statement}
 use Rattle.triangles.proofs.put_cube.Tie as tie
 
 abbrev Inv-loop : tie.InvT-loop
-Inv-loop triangles₀ at slots sizes steps base m next₀ t₀ triangles next t = (t ≤ 6) × (triangles ≡ writtenTo slots (rowsTo sizes base m t) at triangles₀) × (next ≡ at + length (rowsTo sizes base m t))
+Inv-loop triangles₀ at slots sizes corners steps base m next₀ t₀ triangles next t = (t ≤ 6) × (triangles ≡ writtenTo slots (rowsTo sizes base m t) at triangles₀) × (next ≡ at + length (rowsTo sizes base m t))
 
 abbrev μ-loop : tie.MeasureT-loop
-μ-loop triangles₀ at slots sizes steps base m next₀ t₀ triangles next t = 6 - t
+μ-loop triangles₀ at slots sizes corners steps base m next₀ t₀ triangles next t = 6 - t
 
 module _ (c : tie.At-loop Inv-loop μ-loop) where
   done : List Tri
@@ -40,13 +40,13 @@ loop-holds c =
     (omega arith, written-none (now (a .slots)) (a .at) (now (a .triangles)) ∙ ap (λ (l : List Tri). writtenTo (now (a .slots)) l (a .at) (now (a .triangles))) e, omega (arith, ap length e))
 
 row-requires : tie.Need-row-requires Inv-loop μ-loop
-row-requires c κs = omega arith
+row-requires c κs = (c .before .before .before .before .pre .0 .1, omega arith)
 
 put-row-requires : tie.Need-put-row-requires Inv-loop μ-loop
 put-row-requires c κs =
     let s = c .before .before .before .before .before .before in
     let a = s .args in (
-      (s .pre .0 .0, s .pre .0 .1, omega arith, c .before .row .ensures .1, s .pre .0 .2),
+      (s .pre .0 .0, s .pre .0 .2, omega arith, c .before .row .ensures .1, s .pre .0 .3),
       (s .pre .1 .0, omega (arith, s .pre .1 .1, long (c .before .before .before), c .before .before .before .loop .inv .2, ap length (row-is (c .before)), rows-fit (a .sizes) (a .base) (a .m) (c .before .before .before .loop .t) (omega arith))),
     )
 

@@ -20,97 +20,100 @@ use Rattle.triangles.proofs.put_triangles.Statement.{statement}
 use Rattle.triangles.proofs.put_triangles.Tie as tie
 
 abbrev Inv-loop : tie.InvT-loop
-Inv-loop words sizes slots triangles₀ n steps at₀ k₀ p₀ triangles at k p = (k ≤ n) × (p ≡ cubeAt sizes k) × (triangles ≡ writtenTo slots (trianglesUpto sizes words k) 0 triangles₀) × (at ≡ length (trianglesUpto sizes words k))
+Inv-loop words sizes slots triangles₀ n corners steps at₀ k₀ p₀ triangles at k p = (k ≤ n) × (p ≡ cubeAt sizes k) × (triangles ≡ writtenTo slots (trianglesUpto sizes words k) 0 triangles₀) × (at ≡ length (trianglesUpto sizes words k))
 
 abbrev μ-loop : tie.MeasureT-loop
-μ-loop words sizes slots triangles₀ n steps at₀ k₀ p₀ triangles at k p = n - k
+μ-loop words sizes slots triangles₀ n corners steps at₀ k₀ p₀ triangles at k p = n - k
 
-long : (c : tie.At-loop Inv-loop μ-loop) → length (c .loop .triangles) ≡ length (now (c .before .before .before .before .before .before .args .triangles))
+long : (c : tie.At-loop Inv-loop μ-loop) → length (c .loop .triangles) ≡ length (now (c .before .before .before .before .before .before .before .args .triangles))
 long c =
-    let a = c .before .before .before .before .before .before .args in
+    let a = c .before .before .before .before .before .before .before .args in
     ap length (c .loop .inv .2) ∙ written-length (now (a .slots)) 0 (now (a .triangles)) (trianglesUpto (a .sizes) (now (a .words)) (c .loop .k))
 
 module _ (c : tie.In-loop Inv-loop μ-loop) where
-  below : c .before .loop .k < cubes (c .before .before .before .before .before .before .before .args .sizes)
-  below = omega (arith, c .loop-test .taken, c .before .before .before .cube-count .ensures)
+  below : c .before .loop .k < cubes (c .before .before .before .before .before .before .before .before .args .sizes)
+  below = omega (arith, c .loop-test .taken, c .before .before .before .before .cube-count .ensures)
 
-  inside : CubeIn (c .before .before .before .before .before .before .before .args .sizes) (c .before .loop .p)
-  inside = here-in _ (c .before .before .before .before .before .before .before .pre .0 .0) _ (c .before .loop .k) below (c .before .loop .inv .1)
+  inside : CubeIn (c .before .before .before .before .before .before .before .before .args .sizes) (c .before .loop .p)
+  inside = here-in _ (c .before .before .before .before .before .before .before .before .pre .0 .0) _ (c .before .loop .k) below (c .before .loop .inv .1)
 
 module _ (c : tie.After-sample-no Inv-loop μ-loop) where
   -- the base of the cube, and its triangles
-  base : 7 * c .sample-no .result ≡ baseOf (c .before .before .before .before .before .before .before .before .args .sizes) (c .before .before .loop .k)
+  base : 7 * c .sample-no .result ≡ baseOf (c .before .before .before .before .before .before .before .before .before .args .sizes) (c .before .before .loop .k)
   base =
-      here-base _ (c .before .before .before .before .before .before .before .before .pre .0 .0) _ (c .before .before .loop .k) (below (c .before)) (c .before .before .loop .inv .1) _
+      here-base _ (c .before .before .before .before .before .before .before .before .before .pre .0 .0) _ (c .before .before .loop .k) (below (c .before)) (c .before .before .loop .inv .1) _
       (c .sample-no .ensures .0)
 
-  come : let a = c .before .before .before .before .before .before .before .before .args in
+  come : let a = c .before .before .before .before .before .before .before .before .before .args in
       trianglesWord (a .sizes) (7 * c .sample-no .result) (getD (now (a .words)) (c .before .before .loop .k) 0) ≡ trianglesIn (a .sizes) (now (a .words)) (c .before .before .loop .k)
-  come = let a = c .before .before .before .before .before .before .before .before .args in word-in (a .sizes) (now (a .words)) (c .before .before .loop .k) (7 * c .sample-no .result) base
+  come = let a = c .before .before .before .before .before .before .before .before .before .args in word-in (a .sizes) (now (a .words)) (c .before .before .loop .k) (7 * c .sample-no .result) base
 
 cube-count-requires : tie.Need-cube-count-requires Inv-loop μ-loop
 cube-count-requires c κs = search needs
 
-tet-steps-requires : tie.Need-tet-steps-requires Inv-loop μ-loop
-tet-steps-requires c κs = search needs
+tet-corners-requires : tie.Need-tet-corners-requires Inv-loop μ-loop
+tet-corners-requires c κs = tt
+
+row-steps-requires : tie.Need-row-steps-requires Inv-loop μ-loop
+row-steps-requires c κs = search needs
 
 loop-holds : tie.Need-loop-holds Inv-loop μ-loop
 loop-holds c =
-    let a = c .before .before .before .before .before .args in
+    let a = c .before .before .before .before .before .before .args in
     let e = sym (cubes-none (a .sizes) (now (a .words))) in
-    (omega arith, first-cube _ (c .before .before .before .before .before .pre .0 .0), written-none (now (a .slots)) 0 (now (a .triangles)) ∙ ap (λ (l : List Tri). writtenTo (now (a .slots)) l 0 (now (a .triangles))) e, omega (arith, ap length e))
+    (omega arith, first-cube _ (c .before .before .before .before .before .before .pre .0 .0), written-none (now (a .slots)) 0 (now (a .triangles)) ∙ ap (λ (l : List Tri). writtenTo (now (a .slots)) l 0 (now (a .triangles))) e, omega (arith, ap length e))
 
 sample-no-requires : tie.Need-sample-no-requires Inv-loop μ-loop
-sample-no-requires c κs = (c .before .before .before .before .before .before .before .pre .0 .0, low-in _ _ (inside (c)))
+sample-no-requires c κs = (c .before .before .before .before .before .before .before .before .pre .0 .0, low-in _ _ (inside (c)))
 
 mul-base : tie.Need-mul-base Inv-loop μ-loop
-mul-base c = omega (arith, c .sample-no .ensures, samples-few _ (c .before .before .before .before .before .before .before .before .pre .0 .0))
+mul-base c = omega (arith, c .sample-no .ensures, samples-few _ (c .before .before .before .before .before .before .before .before .before .pre .0 .0))
 
 mul-put-word : tie.Need-mul-put-word Inv-loop μ-loop
-mul-put-word c = omega (arith, c .before .before .before .before .before .before .cube-count .ensures)
+mul-put-word c = omega (arith, c .before .before .before .before .before .before .before .before .cube-count .ensures)
 
 shared-slice-read-put-word : tie.Need-shared-slice-read-put-word Inv-loop μ-loop
-shared-slice-read-put-word c = omega (arith, c .before .before .before .before .before .before .before .cube-count .ensures, c .before .before .before .before .before .before .before .before .before .before .before .pre .0 .1)
+shared-slice-read-put-word c = omega (arith, c .before .before .before .before .before .before .before .before .before .cube-count .ensures, c .before .before .before .before .before .before .before .before .before .before .before .before .before .pre .0 .1)
 
 put-word-requires : tie.Need-put-word-requires Inv-loop μ-loop
 put-word-requires c κs =
-    let s = c .before .before .before .before .before .before .before .before .before .before .before in
+    let s = c .before .before .before .before .before .before .before .before .before .before .before .before .before in
     let a = s .args in
     let z = a .sizes in
     let l : 7 * samples z ≤ length (now (a .slots)) = s .pre .0 .2 in (
-      (s .pre .0 .0, c .before .before .before .before .before .before .tet-steps .ensures, omega (arith, c .before .before .before .sample-no .ensures, samples-few z (s .pre .0 .0))),
+      (s .pre .0 .0, c .before .before .before .before .before .before .before .before .tet-corners .ensures, c .before .before .before .before .before .before .before .row-steps .ensures, omega (arith, c .before .before .before .before .sample-no .ensures, samples-few z (s .pre .0 .0))),
       (
-        subst (λ (b : ℕ). TetSlotted z b (length (now (a .slots)))) (sym (base (c .before .before .before))) (tet-slotted z (s .pre .0 .0) (c .before .before .before .before .before .loop .k) (below (c .before .before .before .before)) (length (now (a .slots))) l),
-        omega (arith, s .pre .1, long (c .before .before .before .before .before), c .before .before .before .before .before .loop .inv .3, ap length (come (c .before .before .before)), cubes-fit z (now (a .words)) (c .before .before .before .before .before .loop .k) (cubes z) (below (c .before .before .before .before))),
+        subst (λ (b : ℕ). TetSlotted z b (length (now (a .slots)))) (sym (base (c .before .before .before .before))) (tet-slotted z (s .pre .0 .0) (c .before .before .before .before .before .before .loop .k) (below (c .before .before .before .before .before)) (length (now (a .slots))) l),
+        omega (arith, s .pre .1, long (c .before .before .before .before .before .before), c .before .before .before .before .before .before .loop .inv .3, ap length (come (c .before .before .before .before)), cubes-fit z (now (a .words)) (c .before .before .before .before .before .before .loop .k) (cubes z) (below (c .before .before .before .before .before))),
       ),
     )
 
 next-cube-requires : tie.Need-next-cube-requires Inv-loop μ-loop
-next-cube-requires c κs = (c .before .before .before .before .before .before .before .before .before .before .before .before .before .before .pre .0 .0, inside (c .before .before .before .before .before .before .before))
+next-cube-requires c κs = (c .before .before .before .before .before .before .before .before .before .before .before .before .before .before .before .before .pre .0 .0, inside (c .before .before .before .before .before .before .before .before))
 
 add-k : tie.Need-add-k Inv-loop μ-loop
-add-k c = omega (arith, c .before .before .before .before .before .before .before .before .before .before .before .cube-count .ensures)
+add-k c = omega (arith, c .before .before .before .before .before .before .before .before .before .before .before .before .before .cube-count .ensures)
 
 loop-less : tie.Need-loop-less Inv-loop μ-loop
 loop-less c = omega arith
 
 loop-again : tie.Need-loop-again Inv-loop μ-loop
 loop-again c =
-    let s = c .before .before .before .before .before .before .before .before .before .before .before .before .before .before .before in
+    let s = c .before .before .before .before .before .before .before .before .before .before .before .before .before .before .before .before .before in
     let a = s .args in
     let z = a .sizes in
     let w = now (a .words) in
     let l = now (a .slots) in
-    let k = c .before .before .before .before .before .before .before .before .before .loop .k in
+    let k = c .before .before .before .before .before .before .before .before .before .before .loop .k in
     let f = trianglesUpto z w k in
     let g = trianglesIn z w k in
-    let e = come (c .before .before .before .before .before .before .before) in (
+    let e = come (c .before .before .before .before .before .before .before .before) in (
       omega arith,
-      next-at z (s .pre .0 .0) _ k (below (c .before .before .before .before .before .before .before .before)) (c .before .before .before .before .before .before .before .before .before .loop .inv .1) _ (c .next-cube .ensures),
+      next-at z (s .pre .0 .0) _ k (below (c .before .before .before .before .before .before .before .before .before)) (c .before .before .before .before .before .before .before .before .before .before .loop .inv .1) _ (c .next-cube .ensures),
       c .before .before .before .put-word .ensures .0
-          ∙ ((λ i. sets (c .before .before .before .before .before .before .before .before .before .loop .inv .2 i) (3 * (c .before .before .before .before .before .before .before .before .before .loop .inv .3 ∙ sym (zero-add (length f))) i) (wordsFor l (e i)))
+          ∙ ((λ i. sets (c .before .before .before .before .before .before .before .before .before .before .loop .inv .2 i) (3 * (c .before .before .before .before .before .before .before .before .before .before .loop .inv .3 ∙ sym (zero-add (length f))) i) (wordsFor l (e i)))
           ∙ (written-more l 0 (now (a .triangles)) f g ∙ ap (λ (ts : List Tri). writtenTo l ts 0 (now (a .triangles))) (cubes-more z w k))),
-      omega (arith, c .before .before .before .put-word .ensures .1, c .before .before .before .before .before .before .before .before .before .loop .inv .3, ap length e, ap length (cubes-more z w k), length-append f g),
+      omega (arith, c .before .before .before .put-word .ensures .1, c .before .before .before .before .before .before .before .before .before .before .loop .inv .3, ap length e, ap length (cubes-more z w k), length-append f g),
     )
 
 same-length : tie.Need-same-length Inv-loop μ-loop
@@ -118,12 +121,12 @@ same-length c = long (c .before)
 
 returns : tie.Need-returns Inv-loop μ-loop
 returns c =
-    let a = c .before .before .before .before .before .before .before .args in
+    let a = c .before .before .before .before .before .before .before .before .args in
     let z = a .sizes in
     let w = now (a .words) in
-    let q : c .before .loop .k ≡ cubes z = omega (arith, c .loop-test .left, c .before .before .before .cube-count .ensures) in
+    let q : c .before .loop .k ≡ cubes z = omega (arith, c .loop-test .left, c .before .before .before .before .cube-count .ensures) in
     c .before .loop .inv .2
-    ∙ (ap (λ (k : ℕ). writtenTo (now (a .slots)) (trianglesUpto z w k) 0 (now (a .triangles))) q ∙ written-front (now (a .slots)) (trianglesUpto z w (cubes z)) (now (a .triangles)) (c .before .before .before .before .before .before .before .pre .1))
+    ∙ (ap (λ (k : ℕ). writtenTo (now (a .slots)) (trianglesUpto z w k) 0 (now (a .triangles))) q ∙ written-front (now (a .slots)) (trianglesUpto z w (cubes z)) (now (a .triangles)) (c .before .before .before .before .before .before .before .before .pre .1))
 
 pub put-triangles-spec : {M : Type 1} → statement M
 put-triangles-spec =
@@ -132,7 +135,8 @@ put-triangles-spec =
     Inv-loop
     μ-loop
     cube-count-requires
-    tet-steps-requires
+    tet-corners-requires
+    row-steps-requires
     loop-holds
     sample-no-requires
     mul-base

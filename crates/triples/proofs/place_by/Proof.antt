@@ -12,10 +12,10 @@ use Rattle.triples.proofs.place_by.Statement.{statement}
 use Rattle.triples.proofs.place_by.Tie as tie
 
 abbrev Inv-loop : tie.InvT-loop
-Inv-loop sizes steps base m t c₀ c = (c ≤ 12) × ((k : ℕ) → k < c → isAt sizes base m (triOf t) k ≡ false)
+Inv-loop sizes corners steps base m t c₀ c = (c ≤ 12) × ((k : ℕ) → k < c → isAt sizes base m (triOf t) k ≡ false)
 
 abbrev μ-loop : tie.MeasureT-loop
-μ-loop sizes steps base m t c₀ c = 12 - c
+μ-loop sizes corners steps base m t c₀ c = 12 - c
 
 loop-holds : tie.Need-loop-holds Inv-loop μ-loop
 loop-holds c = (omega arith, λ k h. absurd (omega arith))

@@ -42,7 +42,7 @@ cast-place-by : tie.Need-cast-place-by
 cast-place-by c = search needs
 
 place-by-requires : tie.Need-place-by-requires
-place-by-requires c κs = (c .before .before .before .before .before .before .before .pre .0, c .before .before .before .before .before .before .before .pre .1, omega (arith, c .sample-no .ensures, samples-few _ (c .before .before .before .before .before .before .before .pre .0)))
+place-by-requires c κs = (c .before .before .before .before .before .before .before .pre .0, c .before .before .before .before .before .before .before .pre .1, c .before .before .before .before .before .before .before .pre .2, omega (arith, c .sample-no .ensures, samples-few _ (c .before .before .before .before .before .before .before .pre .0)))
 
 returns-3 : tie.Need-returns-3
 unfolding baseOf
