@@ -19,7 +19,7 @@ use Rattle.flood.specs.Flooded.{wordsOf, Beyond}
 use Rattle.survey.specs.Marks.{marks, usedOf, numberIn, edgesUpto, trianglesUpto}
 use Rattle.layout.specs.Laid.{LaidOut}
 use Rattle.records.specs.Records.{Crossing, firstBadIn as firstBadRecord}
-use Rattle.triples.specs.Triples.{Small, firstBadIn as firstBadTriple}
+use Rattle.triples.specs.Triples.{Small, Sure, firstBadIn as firstBadTriple}
 use Rattle.checker.specs.declared.Counts.{Counts}
 
 -- the slots of the side-changing edges of the cubes with words are 1, the other needed ones 0
@@ -69,6 +69,7 @@ pub record Comparable (L : Lattice) (bs : List ℕ) (w : Work) : Type 0 where
   pub laid : LaidOut bs
   pub crossing : Crossing L (w .slots)
   pub small : Small (cubes (L .size)) (w .waiting)
+  pub sure : Sure (L .size) (w .words)
 
 -- tests 17 to 19
 unfoldable pub lastTests : Lattice → ℕ → List ℕ → List Test

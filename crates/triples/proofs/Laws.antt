@@ -1,5 +1,5 @@
 -- One triangle after the other: its cube, its place there, and the bits. Assumes nothing.
-use mathlib.Core.Path.{_≡_, refl, sym, ap, _∙_}
+use mathlib.Core.Path.{_≡_, refl, sym, ap, subst, _∙_}
 use mathlib.Core.Bool.{Bool, true, false, cond, not, _&&_, and-false}
 use mathlib.Core.List.{List}
 use Prim.Native.Nat.{ℕ, zero, suc, _+_, _-_, _*_, _/_, _%_, _^_, _≤_, _<_}
@@ -11,19 +11,26 @@ use lib.IntN.{ℤ, pos, negsuc, natAbs}
 use lib.Dec.{T, eqb, ltb, eqb→eq, ltb→lt}
 use lib.ListN.{length, getD, set, length-set}
 use lib.Seq.{getD-set-same, getD-set-other}
-use borrow.Author.Tests.{eq-eqb, ne-eqb, lt-ltb, le-ltb, ltb-true, eqb-true}
-use Rattle.lists.specs.Lists.{first}
+use borrow.Author.Tests.{eq-eqb, ne-eqb, lt-ltb, le-ltb, ltb-true, eqb-true, eqb-false}
+use Rattle.lists.specs.Lists.{range, first}
 use Rattle.lists.proofs.Runs.{first-at, first-none}
 use Rattle.lists.proofs.Computed.{upto, upto-at}
 use Rattle.paper.specs.declared.Sizes.{Sizes}
-use Rattle.paper.specs.Lattice.{cubes}
+use Rattle.paper.specs.declared.Place.{Place}
+use Rattle.paper.specs.Lattice.{place, sampleNo, cubes, cubeAt}
 use Rattle.paper.specs.Tables.{Tri, tri}
 use Rattle.paper.specs.Check.{triangleOf}
+use Rattle.paper.specs.Within.{Sized}
 use Rattle.paper.proofs.Judged.{both}
+use Rattle.paper.proofs.Numbers.{sample-lt, cube-lt, cube-inside}
+use Rattle.lattice.proofs.Laws.{low-in, samples-few}
 use Rattle.sides.specs.Pattern.{bitOf}
 use Rattle.survey.specs.Marks.{baseOf}
+use Rattle.survey.proofs.Cubes.{first-cube}
 use Rattle.records.specs.Records.{edgeIn}
-use Rattle.triples.specs.Triples.{holder, isAt, placeBy, placeIn, placeOf, fresh, noted, Small, seenAfter, badIn, firstBadIn}
+use Rattle.records.proofs.Firsts.{first-holds}
+use Rattle.triples.specs.declared.Spot.{Spot}
+use Rattle.triples.specs.Triples.{holder, isAt, placeFrom, placeBy, placeIn, placeOf, Sure, Based, Found, fresh, noted, freshAt, notedAt, Small, seenAfter, badIn, firstBadIn}
 
 -- ── numbers ──
 
@@ -52,13 +59,32 @@ named-is (negsuc m) n h = absurd (omega arith)
 -- ── a place in a cube ──
 
 module _ (z : Sizes) (base m : ℕ) (t : Tri) where
-  pub place-found : (c : ℕ) → c < 12 → ((k : ℕ) → k < c → isAt z base m t k ≡ false) → isAt z base m t c ≡ true → c ≡ placeBy z base m t
-  unfolding placeBy
-  place-found c h before here = sym (first-at (isAt z base m t) 12 0 12 c (omega arith) (omega arith) (λ k g l. before k l) here)
+  pub from-here : (c : ℕ) → c < 12 → isAt z base m t c ≡ true → c ≡ placeFrom z base m t c
+  unfolding placeFrom
+  from-here c h e =
+      let n : 12 - c ≡ suc (11 - c) = omega arith in
+      rw (n, e)
 
-  pub place-missing : ((k : ℕ) → k < 12 → isAt z base m t k ≡ false) → 12 ≡ placeBy z base m t
-  unfolding placeBy
-  place-missing before = sym (first-none (isAt z base m t) 12 0 12 (λ k g l. before k (omega arith)))
+  pub from-next : (c : ℕ) → c < 12 → isAt z base m t c ≡ false → placeFrom z base m t c ≡ placeFrom z base m t (c + 1)
+  unfolding placeFrom
+  from-next c h e =
+      let n : 12 - c ≡ suc (11 - c) = omega arith in
+      let k : 11 - c ≡ 12 - (c + 1) = omega arith in
+      rw (n, e) (λ i. first (isAt z base m t) 12 (range (sym (add-one c) i) (k i)))
+
+  pub from-end : (c : ℕ) → 12 ≤ c → 12 ≡ placeFrom z base m t c
+  unfolding placeFrom
+  from-end c h =
+      let n : 12 - c ≡ 0 = omega arith in
+      rw n
+
+  pub from-holds : (i : ℕ) → placeFrom z base m t i < 12 → isAt z base m t (placeFrom z base m t i) ≡ true
+  unfolding placeFrom
+  from-holds i h = first-holds (isAt z base m t) 12 i (12 - i) h
+
+  pub from-start : placeFrom z base m t 0 ≡ placeBy z base m t
+  unfolding placeFrom placeBy
+  from-start = refl
 
 module _ (z : Sizes) (words : List ℕ) (k : ℕ) (t : Tri) where
   pub place-out : cubes z ≤ k → 12 ≡ placeIn z words k t
@@ -83,25 +109,6 @@ module _ (z : Sizes) (words : List ℕ) (k : ℕ) (t : Tri) where
       go false e h = absurd (omega arith)
 
 -- ── bits ──
-
-module _ (z : Sizes) (words seen : List ℕ) (t : Tri) where
-  abbrev c : ℕ
-  c = placeOf z words t
-
-  abbrev old : ℕ
-  old = getD seen (holder z t) 0
-
-  pub stale-place : c ≡ 12 → false ≡ fresh z words seen t
-  unfolding fresh
-  stale-place e = rw (le-ltb c 12 (omega arith))
-
-  pub stale-bit : (bitOf old c ≡ 0 → ⊥) → false ≡ fresh z words seen t
-  unfolding fresh
-  stale-bit e = rw (ne-eqb (bitOf old c) 0 e, and-false)
-
-  pub fresh-bit : c < 12 → bitOf old c ≡ 0 → true ≡ fresh z words seen t
-  unfolding fresh
-  fresh-bit h e = rw (lt-ltb c 12 h, eq-eqb (bitOf old c) 0 e)
 
 -- bit c of a number, by halving
 double : (c : ℕ) → 2 ^ suc c ≡ 2 * 2 ^ c
@@ -169,6 +176,60 @@ noted-small z words seen t h f s = record { at = λ k l. go k l (ℕ-discrete k 
         let g = set-small 12 (placeOf z words t) (getD seen (holder z t) 0) (f .place) (s .at (holder z t) (f .cube)) (f .bit) in
         rw (e, getD-set-same seen (holder z t) (getD seen (holder z t) 0 + 2 ^ placeOf z words t) 0 (omega (arith, f .cube))) g
     go k l (no e) = rw (getD-set-other seen (holder z t) k (getD seen (holder z t) 0 + 2 ^ placeOf z words t) 0 e) (s .at k l)
+
+-- ── the spot of a triangle ──
+
+-- the first cube, and what it is based on
+pub based-first : (z : Sizes) → Sized z → Based z (record { cube = 0; base = 0; place = 12 })
+unfolding baseOf sampleNo
+based-first z s =
+    let h = cube-lt z (place 0 0 0) (record { x = omega (arith, s .x-low); y = omega (arith, s .y-low); z = omega (arith, s .z-low) }) in
+    record {
+      cube = omega arith;
+      base = (let e : 0 ≡ 7 * (0 + z .nx * (0 + z .ny * 0)) = omega arith in e) ∙ ap (λ (p : Place). 7 * sampleNo z p) (first-cube z s);
+    }
+
+pub base-few : (z : Sizes) → Sized z → (k : ℕ) → k < cubes z → baseOf z k ≤ 2000000
+unfolding baseOf
+base-few z s k h = omega (arith, sample-lt z (cubeAt z k) (low-in z (cubeAt z k) (cube-inside z s k h)), samples-few z s)
+
+module _ (z : Sizes) (words : List ℕ) (k : ℕ) (t : Tri) where
+  -- a search from the first place on
+  pub place-is : k < cubes z → cond (eqb (getD words k 0) 0) 12 (placeFrom z (baseOf z k) (getD words k 0 % 256) t 0) ≡ placeIn z words k t
+  unfolding placeIn placeFrom placeBy
+  place-is h = rw (lt-ltb k (cubes z) h) (go (eqb (getD words k 0) 0))
+    where
+      go : (b : Bool) → cond b 12 (placeBy z (baseOf z k) (getD words k 0 % 256) t) ≡ cond (not b) (placeBy z (baseOf z k) (getD words k 0 % 256) t) 12
+      go true = refl
+      go false = refl
+
+  -- what any search finds in a cube is where the triangle is
+  pub near-found : (i r : ℕ) → Sure z words → k < cubes z → r ≡ cond (eqb (getD words k 0) 0) 12 (placeFrom z (baseOf z k) (getD words k 0 % 256) t i) → r < 12
+      → (holder z t ≡ k) × (placeOf z words t ≡ r)
+  near-found i r s hk e h = go (eqb (getD words k 0) 0) refl e
+    where
+      go : (b : Bool) → eqb (getD words k 0) 0 ≡ b → r ≡ cond b 12 (placeFrom z (baseOf z k) (getD words k 0 % 256) t i) → (holder z t ≡ k) × (placeOf z words t ≡ r)
+      go true q e = absurd (omega arith)
+      go false q e =
+          s .at k r t hk h (eqb-false (getD words k 0) 0 q)
+          (subst (λ (c : ℕ). isAt z (baseOf z k) (getD words k 0 % 256) t c ≡ true) (sym e) (from-holds z (baseOf z k) (getD words k 0 % 256) t i (omega arith)))
+
+module _ (z : Sizes) (words seen : List ℕ) (t : Tri) (s : Spot) (f : Found z words t s) where
+  pub found-fresh : freshAt seen s ≡ fresh z words seen t
+  unfolding freshAt fresh
+  found-fresh = go (ltb (s .place) 12) refl
+    where
+      go : (b : Bool) → ltb (s .place) 12 ≡ b
+          → (ltb (s .place) 12 && eqb (bitOf (getD seen (s .cube) 0) (s .place)) 0)
+          ≡ (ltb (placeOf z words t) 12 && eqb (bitOf (getD seen (holder z t) 0) (placeOf z words t)) 0)
+      go true e = λ i. ltb (f .place i) 12 && eqb (bitOf (getD seen (f .cube (ltb-true (s .place) 12 e) i) 0) (f .place i)) 0
+      go false e = rw (e, ← f .place, e)
+
+  pub found-noted : freshAt seen s ≡ true → notedAt seen s ≡ noted z words seen t
+  unfolding freshAt notedAt noted
+  found-noted e =
+      let h = ltb-true (s .place) 12 (both (ltb (s .place) 12) (eqb (bitOf (getD seen (s .cube) 0) (s .place)) 0) e .0) in
+      λ i. set seen (f .cube h i) (getD seen (f .cube h i) 0 + 2 ^ (f .place i))
 
 -- ── triangle after triangle ──
 

@@ -2,7 +2,7 @@
 use mathlib.Core.Path.{_≡_}
 use mathlib.Core.Bool.{Bool, true, cond, not, _&&_}
 use mathlib.Core.List.{List}
-use Prim.Native.Nat.{ℕ, zero, suc, _+_, _/_, _%_, _^_, min, _<_}
+use Prim.Native.Nat.{ℕ, zero, suc, _+_, _-_, _/_, _%_, _^_, min, _<_}
 use lib.IntN.{ℤ}
 use lib.Dec.{eqb, ltb}
 use lib.ListN.{getD, set}
@@ -15,6 +15,7 @@ use Rattle.sides.specs.Pattern.{bitOf}
 use Rattle.tetra.specs.Cut.{rowBy, rowCount, rowTriangles}
 use Rattle.survey.specs.Marks.{baseOf}
 use Rattle.records.specs.Records.{edgeIn}
+use Rattle.triples.specs.declared.Spot.{Spot}
 
 -- the edges of the first nv records are among n
 pub record Named (n : ℕ) (vs : List ℤ) (nv : ℕ) : Type 0 where
@@ -40,7 +41,10 @@ isAt z base m t c =
     let r = rowBy m (c / 2) in
     ltb (c % 2) (rowCount r) && turned t (getD (rowTriangles z base (c / 2) r) (c % 2) (tri 0 0 0))
 
--- the place of t in a cube with pattern m, or 12
+-- the first place of t from i on in a cube with pattern m, or 12; its first place, or 12
+unfoldable pub placeFrom : Sizes → ℕ → ℕ → Tri → ℕ → ℕ
+placeFrom z base m t i = first (isAt z base m t) 12 (range i (12 - i))
+
 unfoldable pub placeBy : Sizes → ℕ → ℕ → Tri → ℕ
 placeBy z base m t = first (isAt z base m t) 12 (range 0 12)
 
@@ -67,6 +71,24 @@ fresh z words seen t =
 -- its bit becomes 1
 unfoldable pub noted : Sizes → List ℕ → List ℕ → Tri → List ℕ
 noted z words seen t = set seen (holder z t) (getD seen (holder z t) 0 + 2 ^ placeOf z words t)
+
+-- a spot is based: its cube is one of the lattice, and its base is the cube's
+pub record Based (z : Sizes) (s : Spot) : Type 0 where
+  pub cube : s .cube < cubes z
+  pub base : s .base ≡ baseOf z (s .cube)
+
+-- a spot is where t is: its place, and its cube where it has a place
+pub record Found (z : Sizes) (words : List ℕ) (t : Tri) (s : Spot) : Type 0 where
+  pub place : s .place ≡ placeOf z words t
+  pub cube : s .place < 12 → s .cube ≡ holder z t
+  pub based : Based z s
+
+-- a spot has a place, and its bit is 0; its bit becomes 1
+unfoldable pub freshAt : List ℕ → Spot → Bool
+freshAt seen s = ltb (s .place) 12 && eqb (bitOf (getD seen (s .cube) 0) (s .place)) 0
+
+unfoldable pub notedAt : List ℕ → Spot → List ℕ
+notedAt seen s = set seen (s .cube) (getD seen (s .cube) 0 + 2 ^ (s .place))
 
 -- the bits of each of the first n are those of 12 places
 pub record Small (n : ℕ) (seen : List ℕ) : Type 0 where

@@ -3,8 +3,9 @@ use paper::Sizes;
 use tetra::Triangle;
 ghost use mathlib.Core.Path.{_≡_};
 ghost use mathlib.Core.Bool.{cond};
-ghost use Prim.Native.Nat.{_+_, _*_, _^_, min, _≤_, _<_};
-ghost use lib.ListN.{length};
+ghost use Prim.Native.Nat.{_%_, _^_, min, _≤_, _<_, _*_};
+ghost use lib.Dec.{eqb};
+ghost use lib.ListN.{length, getD};
 ghost use Rattle.paper.specs.Lattice.{cubes};
 ghost use Rattle.paper.specs.Within.{Sized};
 ghost use Rattle.paper.specs.Build.{neededSlots};
@@ -13,7 +14,14 @@ ghost use Rattle.paper.specs.Check.{sameTriangle, turned, cornerOf, triangleOf}
 ghost use Rattle.sides.specs.Pattern.{bitOf};
 ghost use Rattle.tetra.specs.Cut.{tetCorners, rowSteps, triOf};
 ghost use Rattle.layout.specs.Laid.{LaidOut};
-ghost use Rattle.triples.specs.Triples.{Named, Among, holder, isAt, placeBy, placeIn, fresh, noted, Small, seenAfter, firstBadIn};
+ghost use Rattle.triples.specs.Triples.{Named, Among, holder, isAt, placeFrom, Sure, Based, Found, freshAt, notedAt, Small, seenAfter, firstBadIn};
+
+// A place of a cube, 12 for none, and 7 × the number of the cube's lowest sample.
+pub struct Spot {
+    pub cube: usize,
+    pub base: usize,
+    pub place: usize,
+}
 
 fn same_triangle(t: Triangle, u: Triangle) -> bool
     ensures { λ r. ⌜ r ≡ sameTriangle (triOf t) (triOf u) ⌝ }
@@ -104,19 +112,20 @@ fn is_at(
     is_turned(t, u)
 }
 
-// The place of t in a cube with pattern m, or 12.
-fn place_by(
+// The first place of t from `from` on in a cube with pattern m, or 12.
+fn place_from(
     sizes: Sizes,
     corners: &[usize; 24],
     steps: &[usize; 576],
     base: usize,
     m: usize,
     t: Triangle,
+    from: usize,
 ) -> usize
-    requires { ⌜ Sized sizes × (now corners ≡ tetCorners) × (now steps ≡ rowSteps sizes) × (base ≤ 2000000) ⌝ }
-    ensures { λ r. ⌜ (r ≡ placeBy sizes base m (triOf t)) × (r ≤ 12) ⌝ }
+    requires { ⌜ Sized sizes × (now corners ≡ tetCorners) × (now steps ≡ rowSteps sizes) × (base ≤ 2000000) × (from ≤ 13) ⌝ }
+    ensures { λ r. ⌜ (r ≡ placeFrom sizes base m (triOf t) from) × (r ≤ 12) ⌝ }
 {
-    let mut c = 0;
+    let mut c = from;
     while c < 12 {
         if is_at(sizes, corners, steps, base, m, t, c) {
             return c;
@@ -126,28 +135,85 @@ fn place_by(
     12
 }
 
-// The place of t in cube k, or 12 where k is no visited cube.
+// The same in a cube with a word, or 12 where the word is 0.
 fn place_in(
+    sizes: Sizes,
+    corners: &[usize; 24],
+    steps: &[usize; 576],
+    base: usize,
+    word: u16,
+    t: Triangle,
+    from: usize,
+) -> usize
+    requires { ⌜ Sized sizes × (now corners ≡ tetCorners) × (now steps ≡ rowSteps sizes) × (base ≤ 2000000) × (from ≤ 13) ⌝ }
+    ensures { λ r. ⌜ (r ≡ cond (eqb word 0) 12 (placeFrom sizes base (word % 256) (triOf t) from)) × (r ≤ 12) ⌝ }
+{
+    if word == 0 {
+        return 12;
+    }
+    place_from(sizes, corners, steps, base, (word % 256) as usize, t, from)
+}
+
+// Where t is, by the cube that can hold it.
+fn search(
     sizes: Sizes,
     words: &[u16],
     corners: &[usize; 24],
     steps: &[usize; 576],
-    k: usize,
     t: Triangle,
-) -> usize
-    requires { ⌜ Sized sizes × (now corners ≡ tetCorners) × (now steps ≡ rowSteps sizes) × (cubes sizes ≤ length (now words)) ⌝ }
-    ensures { λ r. ⌜ (r ≡ placeIn sizes (now (words .entry)) k (triOf t)) × (r ≤ 12) ⌝ }
+) -> Spot
+    requires { ⌜ Sized sizes × (now corners ≡ tetCorners) × (now steps ≡ rowSteps sizes) × Among (neededSlots sizes) (triOf t) × (cubes sizes ≤ length (now words)) ⌝ }
+    ensures { λ r. ⌜ Found sizes (now (words .entry)) (triOf t) r × (r .place ≤ 12) ⌝ }
 {
+    let k = holder_of(sizes, t);
     if lattice::cube_count(sizes) <= k {
-        return 12;
-    }
-    let word = words[k];
-    if word == 0 {
-        return 12;
+        return Spot {
+            cube: 0,
+            base: 0,
+            place: 12,
+        };
     }
     let p = lattice::cube_at(sizes, k);
     let base = 7 * lattice::sample_no(sizes, p);
-    place_by(sizes, corners, steps, base, (word % 256) as usize, t)
+    let place = place_in(sizes, corners, steps, base, words[k], t, 0);
+    Spot {
+        cube: k,
+        base: base,
+        place: place,
+    }
+}
+
+// Where t is: sought behind the last triangle in that one's cube, then by its own.
+fn find(
+    sizes: Sizes,
+    words: &[u16],
+    corners: &[usize; 24],
+    steps: &[usize; 576],
+    last: Spot,
+    t: Triangle,
+) -> Spot
+    requires { ⌜ Sized sizes × (now corners ≡ tetCorners) × (now steps ≡ rowSteps sizes) × Among (neededSlots sizes) (triOf t) × (cubes sizes ≤ length (now words)) ⌝ }
+    requires { ⌜ Sure sizes (now words) × Based sizes last × (last .place ≤ 12) ⌝ }
+    ensures { λ r. ⌜ Found sizes (now (words .entry)) (triOf t) r × (r .place ≤ 12) ⌝ }
+{
+    let k = last.cube;
+    let place = place_in(
+        sizes,
+        corners,
+        steps,
+        last.base,
+        words[k],
+        t,
+        last.place + 1,
+    );
+    if place < 12 {
+        return Spot {
+            cube: k,
+            base: last.base,
+            place: place,
+        };
+    }
+    search(sizes, words, corners, steps, t)
 }
 
 // Bit c of m.
@@ -166,22 +232,14 @@ fn power(c: usize) -> u32
     1 << c
 }
 
-// Whether t is a triangle of its cube whose bit is 0; if so, the bit becomes 1.
-fn note(
-    sizes: Sizes,
-    words: &[u16],
-    corners: &[usize; 24],
-    steps: &[usize; 576],
-    seen: &mut [u32],
-    t: Triangle,
-) -> bool
-    requires { ⌜ Sized sizes × (now corners ≡ tetCorners) × (now steps ≡ rowSteps sizes) × Among (neededSlots sizes) (triOf t) ⌝ }
-    requires { ⌜ (cubes sizes ≤ length (now words)) × (cubes sizes ≤ length (now seen)) × Small (cubes sizes) (now seen) ⌝ }
-    ensures { λ r. ⌜ (r ≡ fresh sizes (now (words .entry)) (now (seen .entry)) (triOf t)) × (now (seen .exit) ≡ cond r (noted sizes (now (words .entry)) (now (seen .entry)) (triOf t)) (now (seen .entry))) ⌝ }
+// Whether a spot has a place whose bit is 0; if so, the bit becomes 1.
+fn note(seen: &mut [u32], at: Spot) -> bool
+    requires { ⌜ (at .cube < length (now seen)) × (getD (now seen) (at .cube) 0 < 4096) ⌝ }
+    ensures { λ r. ⌜ (r ≡ freshAt (now (seen .entry)) at) × (now (seen .exit) ≡ cond r (notedAt (now (seen .entry)) at) (now (seen .entry))) ⌝ }
 {
-    let k = holder_of(sizes, t);
-    let c = place_in(sizes, words, corners, steps, k, t);
-    if c == 12 {
+    let k = at.cube;
+    let c = at.place;
+    if 12 <= c {
         return false;
     }
     let old = seen[k];
@@ -216,7 +274,7 @@ fn triangle_at(bytes: &[u8], nv: usize, n: usize, i: usize) -> Triangle
 // The first triangle that is not one of its cube's, or whose bit an earlier one made 1, or T; the bits of those before it are 1.
 pub fn first_bad(sizes: Sizes, bytes: &[u8], words: &[u16], seen: &mut [u32]) -> usize
     requires { ⌜ Sized sizes × LaidOut (now bytes) × Named (neededSlots sizes) (fileVertices (now bytes)) (fileV (now bytes)) ⌝ }
-    requires { ⌜ (cubes sizes ≤ length (now words)) × (cubes sizes ≤ length (now seen)) × Small (cubes sizes) (now seen) ⌝ }
+    requires { ⌜ (cubes sizes ≤ length (now words)) × (cubes sizes ≤ length (now seen)) × Small (cubes sizes) (now seen) × Sure sizes (now words) ⌝ }
     ensures { λ r. ⌜ (r ≡ firstBadIn sizes (now (words .entry)) (fileVertices (now (bytes .entry))) (fileTriangles (now (bytes .entry))) (now (seen .entry)) (fileT (now (bytes .entry)))) × (now (seen .exit) ≡ seenAfter sizes (now (words .entry)) (fileVertices (now (bytes .entry))) (fileTriangles (now (bytes .entry))) (now (seen .entry)) r) ⌝ }
 {
     let n = 7 * lattice::sample_count(sizes);
@@ -224,10 +282,16 @@ pub fn first_bad(sizes: Sizes, bytes: &[u8], words: &[u16], seen: &mut [u32]) ->
     let nt = layout::triangle_count(bytes);
     let corners = tetra::tet_corners();
     let steps = tetra::row_steps(sizes);
+    let mut last = Spot {
+        cube: 0,
+        base: 0,
+        place: 12,
+    };
     let mut i = 0;
     while i < nt {
         let t = triangle_at(bytes, nv, n, i);
-        let good = note(sizes, words, &corners, &steps, seen, t);
+        last = find(sizes, words, &corners, &steps, last, t);
+        let good = note(seen, last);
         if !good {
             return i;
         }

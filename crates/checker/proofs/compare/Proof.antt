@@ -41,7 +41,7 @@ returns c = record {
 }
 
 first-bad-requires-2 : tie.Need-first-bad-requires-2
-first-bad-requires-2 c κs = ((c .before .before .before .before .before .before .before .before .before .before .before .before .pre .0 .full .sized, c .before .before .before .before .before .before .before .before .before .before .before .before .pre .0 .laid, all-named (L (c .before .before .before .before .before .before .before .before .before .before .before .before)) (fileVertices (bs (c .before .before .before .before .before .before .before .before .before .before .before .before))) (now (c .before .before .before .before .before .before .before .before .before .before .before .before .args .slots)) (fileV (bs (c .before .before .before .before .before .before .before .before .before .before .before .before))) (sym (c .before .before .before .before .first-bad .ensures .0) ∙ (c .before .if1 .left ∙ c .before .before .before .before .before .before .before .vertex-count .ensures .0))), (c .before .before .before .before .before .before .before .before .before .before .before .before .pre .1 .words, c .before .before .before .before .before .before .before .before .before .before .before .before .pre .1 .waiting, c .before .before .before .before .before .before .before .before .before .before .before .before .pre .0 .small))
+first-bad-requires-2 c κs = ((c .before .before .before .before .before .before .before .before .before .before .before .before .pre .0 .full .sized, c .before .before .before .before .before .before .before .before .before .before .before .before .pre .0 .laid, all-named (L (c .before .before .before .before .before .before .before .before .before .before .before .before)) (fileVertices (bs (c .before .before .before .before .before .before .before .before .before .before .before .before))) (now (c .before .before .before .before .before .before .before .before .before .before .before .before .args .slots)) (fileV (bs (c .before .before .before .before .before .before .before .before .before .before .before .before))) (sym (c .before .before .before .before .first-bad .ensures .0) ∙ (c .before .if1 .left ∙ c .before .before .before .before .before .before .before .vertex-count .ensures .0))), (c .before .before .before .before .before .before .before .before .before .before .before .before .pre .1 .words, c .before .before .before .before .before .before .before .before .before .before .before .before .pre .1 .waiting, c .before .before .before .before .before .before .before .before .before .before .before .before .pre .0 .small, c .before .before .before .before .before .before .before .before .before .before .before .before .pre .0 .sure))
 
 same-length-2 : tie.Need-same-length-2
 same-length-2 c = search needs

@@ -6,7 +6,8 @@ use Rattle.paper.specs.Lattice.{Lattice, lattice}
 use Rattle.paper.specs.Build.{needed, neededSlots}
 use Rattle.paper.specs.Check.{Work, work}
 use Rattle.checker.proofs.Answers.{cleared-again}
-use Rattle.checker.proofs.Known.{crossing, small, long, words-rest, waiting-rest, slots-rest}
+use Rattle.checker.proofs.Known.{words-are, crossing, small, long, words-rest, waiting-rest, slots-rest}
+use Rattle.checker.proofs.Spots.{sure}
 use Rattle.checker.proofs.Verdicts.{same-answer}
 use borrow.Author.Needs.{needs}
 use Rattle.checker.proofs.last_tests.Statement.{statement}
@@ -31,6 +32,7 @@ compare-requires c κs =
         laid = s .pre .2;
         crossing = crossing (L s) (s .args .start) z (s .pre .1) (w s) (s .pre .3) (c .before .before .before .before .before .before .before .before .before .prepare .result) _ p;
         small = small (L s) (s .args .start) z (s .pre .1) (w s) (s .pre .3) (c .before .before .before .before .before .before .before .before .before .prepare .result) _ p;
+        sure = sure (L s) z (s .args .start) (s .pre .1) _ (words-are (L s) (s .args .start) z (s .pre .1) (w s) (s .pre .3) (c .before .before .before .before .before .before .before .before .before .prepare .result) _ p);
       },
       long (L s) (s .args .start) z (s .pre .1) (w s) (s .pre .3) (c .before .before .before .before .before .before .before .before .before .prepare .result) _ p,
     )

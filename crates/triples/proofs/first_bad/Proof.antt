@@ -15,16 +15,16 @@ use Rattle.paper.specs.Build.{neededSlots}
 use Rattle.paper.specs.File.{fileV, fileT, fileVertices, fileTriangles}
 use Rattle.paper.specs.Check.{triangleOf}
 use Rattle.tetra.specs.Cut.{triOf}
-use Rattle.triples.specs.Triples.{Named, Among, fresh, noted, Small, seenAfter, badIn}
-use Rattle.triples.proofs.Laws.{is-fresh, noted-small, after-none, after-more, after-length, bad-here, good-here, first-found, first-missing}
+use Rattle.triples.specs.Triples.{Named, Among, Based, fresh, noted, Small, seenAfter, badIn}
+use Rattle.triples.proofs.Laws.{is-fresh, noted-small, based-first, found-fresh, found-noted, after-none, after-more, after-length, bad-here, good-here, first-found, first-missing}
 use Rattle.triples.proofs.first_bad.Statement.{statement}
 use Rattle.triples.proofs.first_bad.Tie as tie
 
 abbrev Inv-loop : tie.InvT-loop
-Inv-loop sizes bytes words seen₀ n nv nt corners steps i₀ seen i = let vs = fileVertices bytes in let ts = fileTriangles bytes in (i ≤ nt) × (seen ≡ seenAfter sizes words vs ts seen₀ i) × ((k : ℕ) → k < i → badIn sizes words vs ts seen₀ k ≡ false) × Small (cubes sizes) seen
+Inv-loop sizes bytes words seen₀ n nv nt corners steps last₀ i₀ seen last i = let vs = fileVertices bytes in let ts = fileTriangles bytes in (i ≤ nt) × (seen ≡ seenAfter sizes words vs ts seen₀ i) × ((k : ℕ) → k < i → badIn sizes words vs ts seen₀ k ≡ false) × Small (cubes sizes) seen × Based sizes last × (last .place ≤ 12)
 
 abbrev μ-loop : tie.MeasureT-loop
-μ-loop sizes bytes words seen₀ n nv nt corners steps i₀ seen i = nt - i
+μ-loop sizes bytes words seen₀ n nv nt corners steps last₀ i₀ seen last i = nt - i
 
 abbrev vs : tie.Start Inv-loop μ-loop → List ℤ
 vs s = fileVertices (now (s .args .bytes))
@@ -38,12 +38,15 @@ long c = let s = c .before .before .before .before .before .before .before .befo
 all : (c : tie.At-loop Inv-loop μ-loop) → 7 * c .before .before .before .before .before .sample-count .result ≡ neededSlots (c .before .before .before .before .before .before .before .before .before .args .sizes)
 all c = ap (λ (n : ℕ). 7 * n) (c .before .before .before .before .before .sample-count .ensures .0)
 
--- whether the triangle is fresh, with the bits as they are
-is : (c : tie.After-note Inv-loop μ-loop) → let s = c .before .before .before .before .before .before .before .before .before .before .before .before .before .before .before in let i = c .before .before .before .before .before .before .loop .i in
-    c .note .result ≡ fresh (s .args .sizes) (now (s .args .words)) (seenAfter (s .args .sizes) (now (s .args .words)) (vs s) (ts s) (now (s .args .seen)) i) (triangleOf (vs s) (ts s) i)
-is c =
-    let s = c .before .before .before .before .before .before .before .before .before .before .before .before .before .before .before in
-    c .note .ensures .0 ∙ (λ j. fresh (s .args .sizes) (now (s .args .words)) (c .before .before .before .before .before .before .loop .inv .1 j) (c .before .before .before .before .triangle-at .ensures .0 j))
+-- whether the triangle is fresh: by the bits as they are, and by those after i triangles
+module _ (c : tie.After-note Inv-loop μ-loop) where
+  fresh-now : let s = c .before .before .before .before .before .before .before .before .before .before .before .before .before .before .before .before in
+      c .note .result ≡ fresh (s .args .sizes) (now (s .args .words)) (c .before .before .before .before .before .before .before .loop .seen) (triOf (c .before .before .before .before .before .triangle-at .result))
+  fresh-now = let s = c .before .before .before .before .before .before .before .before .before .before .before .before .before .before .before .before in c .note .ensures .0 ∙ found-fresh (s .args .sizes) (now (s .args .words)) (c .before .before .before .before .before .before .before .loop .seen) (triOf (c .before .before .before .before .before .triangle-at .result)) (c .before .before .find .result) (c .before .before .find .ensures .0)
+
+  is : let s = c .before .before .before .before .before .before .before .before .before .before .before .before .before .before .before .before in let i = c .before .before .before .before .before .before .before .loop .i in
+      c .note .result ≡ fresh (s .args .sizes) (now (s .args .words)) (seenAfter (s .args .sizes) (now (s .args .words)) (vs s) (ts s) (now (s .args .seen)) i) (triangleOf (vs s) (ts s) i)
+  is = let s = c .before .before .before .before .before .before .before .before .before .before .before .before .before .before .before .before in fresh-now ∙ (λ j. fresh (s .args .sizes) (now (s .args .words)) (c .before .before .before .before .before .before .before .loop .inv .1 j) (c .before .before .before .before .before .triangle-at .ensures .0 j))
 
 sample-count-requires : tie.Need-sample-count-requires Inv-loop μ-loop
 sample-count-requires c κs = c .before .before .before .pre .0 .0
@@ -64,26 +67,34 @@ row-steps-requires : tie.Need-row-steps-requires Inv-loop μ-loop
 row-steps-requires c κs = c .before .before .before .before .before .before .before .pre .0 .0
 
 loop-holds : tie.Need-loop-holds Inv-loop μ-loop
-loop-holds c = (omega arith, after-none _ _ _ _ _, (λ k h. absurd (omega arith)), c .before .before .before .before .before .before .before .before .pre .1 .2)
+loop-holds c = (omega arith, after-none _ _ _ _ _, (λ k h. absurd (omega arith)), c .before .before .before .before .before .before .before .before .pre .1 .2, based-first _ (c .before .before .before .before .before .before .before .before .pre .0 .0), omega arith)
 
 triangle-at-requires : tie.Need-triangle-at-requires Inv-loop μ-loop
 triangle-at-requires c κs =
     let s = c .before .before .before .before .before .before .before .before .before .before in
     let v = c .before .before .before .before .before .vertex-count .ensures .0 in (s .pre .0 .1, v, omega (arith, c .loop-test .taken, c .before .before .before .before .triangle-count .ensures), subst (λ (n : ℕ). Named n (vs s) (c .before .before .before .before .before .vertex-count .result)) (sym (all (c .before))) (subst (Named (neededSlots (s .args .sizes)) (vs s)) (sym v) (s .pre .0 .2)))
 
+find-requires : tie.Need-find-requires Inv-loop μ-loop
+find-requires c κs =
+    let s = c .before .before .before .before .before .before .before .before .before .before .before .before .before in
+    let l = c .before .before .before .before .loop in
+    ((s .pre .0 .0, c .before .before .before .before .before .before .tet-corners .ensures, c .before .before .before .before .before .row-steps .ensures, subst (λ (n : ℕ). Among n (triOf (c .before .before .triangle-at .result))) (all (c .before .before .before .before)) (c .before .before .triangle-at .ensures .1), s .pre .1 .0), (s .pre .1 .3, l .inv .4, l .inv .5))
+
 note-requires : tie.Need-note-requires Inv-loop μ-loop
 note-requires c κs =
-    let s = c .before .before .before .before .before .before .before .before .before .before .before .before .before .before in ((s .pre .0 .0, c .before .before .before .before .before .before .before .tet-corners .ensures, c .before .before .before .before .before .before .row-steps .ensures, subst (λ (n : ℕ). Among n (triOf (c .before .before .before .triangle-at .result))) (all (c .before .before .before .before .before)) (c .before .before .before .triangle-at .ensures .1)), (s .pre .1 .0, omega (arith, long (c .before .before .before .before .before), s .pre .1 .1), c .before .before .before .before .before .loop .inv .3))
+    let s = c .before .before .before .before .before .before .before .before .before .before .before .before .before .before .before in
+    let b = c .before .find .ensures .0 .based in
+    (omega (arith, b .cube, long (c .before .before .before .before .before .before), s .pre .1 .1), c .before .before .before .before .before .before .loop .inv .3 .at (c .before .find .result .cube) (b .cube))
 
 same-length : tie.Need-same-length Inv-loop μ-loop
-same-length c = let b = not-true (c .before .before .before .note .result) (c .if1 .taken) in ap length (rw b at (c .before .before .before .note .ensures .1)) ∙ long (c .before .before .before .before .before .before .before .before .before)
+same-length c = let b = not-true (c .before .before .before .note .result) (c .if1 .taken) in ap length (rw b at (c .before .before .before .note .ensures .1)) ∙ long (c .before .before .before .before .before .before .before .before .before .before)
 
 returns : tie.Need-returns Inv-loop μ-loop
 returns c =
-    let s = c .before .before .before .before .before .before .before .before .before .before .before .before .before .before .before .before .before .before in
-    let i = c .before .before .before .before .before .before .before .before .before .loop .i in
+    let s = c .before .before .before .before .before .before .before .before .before .before .before .before .before .before .before .before .before .before .before in
+    let i = c .before .before .before .before .before .before .before .before .before .before .loop .i in
     let b = not-true (c .before .before .before .note .result) (c .if1 .taken) in
-    (first-found (s .args .sizes) (now (s .args .words)) (vs s) (ts s) (now (s .args .seen)) (fileT (now (s .args .bytes))) i (omega (arith, c .before .before .before .before .before .before .before .before .loop-test .taken, c .before .before .before .before .before .before .before .before .before .before .before .before .triangle-count .ensures)) (c .before .before .before .before .before .before .before .before .before .loop .inv .2) (bad-here (s .args .sizes) (now (s .args .words)) (vs s) (ts s) (now (s .args .seen)) i (sym (is (c .before .before .before)) ∙ b)), (rw b at (c .before .before .before .note .ensures .1)) ∙ c .before .before .before .before .before .before .before .before .before .loop .inv .1)
+    (first-found (s .args .sizes) (now (s .args .words)) (vs s) (ts s) (now (s .args .seen)) (fileT (now (s .args .bytes))) i (omega (arith, c .before .before .before .before .before .before .before .before .before .loop-test .taken, c .before .before .before .before .before .before .before .before .before .before .before .before .before .triangle-count .ensures)) (c .before .before .before .before .before .before .before .before .before .before .loop .inv .2) (bad-here (s .args .sizes) (now (s .args .words)) (vs s) (ts s) (now (s .args .seen)) i (sym (is (c .before .before .before)) ∙ b)), (rw b at (c .before .before .before .note .ensures .1)) ∙ c .before .before .before .before .before .before .before .before .before .before .loop .inv .1)
 
 add-i : tie.Need-add-i Inv-loop μ-loop
 add-i c = omega arith
@@ -93,17 +104,21 @@ loop-less c = omega arith
 
 loop-again : tie.Need-loop-again Inv-loop μ-loop
 loop-again c =
-    let s = c .before .before .before .before .before .before .before .before .before .before .before .before .before .before .before .before .before .before in
+    let s = c .before .before .before .before .before .before .before .before .before .before .before .before .before .before .before .before .before .before .before in
     let z = s .args .sizes in
     let w = now (s .args .words) in
-    let i = c .before .before .before .before .before .before .before .before .before .loop .i in
+    let l = c .before .before .before .before .before .before .before .before .before .before .loop in
+    let t = triOf (c .before .before .before .before .before .before .before .before .triangle-at .result) in
+    let found = c .before .before .before .before .before .find in
     let b = not-false (c .before .before .before .note .result) (c .if1 .left) in
-    let e = rw b at (c .before .before .before .note .ensures .1) in
-    let f = is-fresh z w (c .before .before .before .before .before .before .before .before .before .loop .seen) (triOf (c .before .before .before .before .before .before .before .triangle-at .result)) (sym (c .before .before .before .note .ensures .0) ∙ b) in (
+    let e = (rw b at (c .before .before .before .note .ensures .1)) ∙ found-noted z w (l .seen) t (found .result) (found .ensures .0) (sym (c .before .before .before .note .ensures .0) ∙ b) in
+    let f = is-fresh z w (l .seen) t (sym (fresh-now (c .before .before .before)) ∙ b) in (
       omega arith,
-      e ∙ ((λ j. noted z w (c .before .before .before .before .before .before .before .before .before .loop .inv .1 j) (c .before .before .before .before .before .before .before .triangle-at .ensures .0 j)) ∙ after-more z w (vs s) (ts s) (now (s .args .seen)) i),
-      below-more _ _ (c .before .before .before .before .before .before .before .before .before .loop .inv .2) (good-here z w (vs s) (ts s) (now (s .args .seen)) i (sym (is (c .before .before .before)) ∙ b)),
-      subst (Small (cubes z)) (sym e) (noted-small z w (c .before .before .before .before .before .before .before .before .before .loop .seen) (triOf (c .before .before .before .before .before .before .before .triangle-at .result)) (omega (arith, long (c .before .before .before .before .before .before .before .before .before), s .pre .1 .1)) f (c .before .before .before .before .before .before .before .before .before .loop .inv .3)),
+      e ∙ ((λ j. noted z w (l .inv .1 j) (c .before .before .before .before .before .before .before .before .triangle-at .ensures .0 j)) ∙ after-more z w (vs s) (ts s) (now (s .args .seen)) (l .i)),
+      below-more _ _ (l .inv .2) (good-here z w (vs s) (ts s) (now (s .args .seen)) (l .i) (sym (is (c .before .before .before)) ∙ b)),
+      subst (Small (cubes z)) (sym e) (noted-small z w (l .seen) t (omega (arith, long (c .before .before .before .before .before .before .before .before .before .before), s .pre .1 .1)) f (l .inv .3)),
+      found .ensures .0 .based,
+      found .ensures .1,
     )
 
 same-length-2 : tie.Need-same-length-2 Inv-loop μ-loop
@@ -129,6 +144,7 @@ first-bad-spec =
     row-steps-requires
     loop-holds
     triangle-at-requires
+    find-requires
     note-requires
     same-length
     returns
