@@ -18,7 +18,7 @@ use Rattle.paper.specs.declared.Sizes.{Sizes}
 use Rattle.paper.specs.Tables.{Tri, rows}
 use Rattle.paper.proofs.Tables.{row-short}
 use Rattle.tetra.specs.Cut.{rowBy, rowCount, localSplit}
-use Rattle.survey.specs.Marks.{marks, used, usedOf, edgesFrom, countBy, counts, edgesIn, trianglesIn, edgesUpto, trianglesUpto, numberIn}
+use Rattle.survey.specs.Marks.{marks, used, usedOf, edgesFrom, countBy, patternCounts, edgesIn, trianglesIn, edgesUpto, trianglesUpto, numberIn}
 
 -- ── marks ──
 
@@ -105,8 +105,8 @@ pub count-few : (m : ℕ) → countBy m ≤ 12
 unfolding countBy
 count-few m = each-le (λ t. getD rows (rowBy m t) []) 2 (λ t. row-short (rowBy m t)) (range 0 6)
 
-pub count-at : (m : ℕ) → m < 256 → getD counts m 0 ≡ countBy m
-unfolding counts
+pub count-at : (m : ℕ) → m < 256 → getD patternCounts m 0 ≡ countBy m
+unfolding patternCounts
 count-at m h = at-along countBy 0 256 m h
 
 module _ (z : Sizes) (words : List ℕ) (k : ℕ) where

@@ -16,10 +16,10 @@ use Rattle.survey.proofs.mark_all.Statement.{statement}
 use Rattle.survey.proofs.mark_all.Tie as tie
 
 abbrev Inv-loop : tie.InvT-loop
-Inv-loop words sizes slots₀ n steps each count₀ k₀ p₀ slots count k p = (k ≤ n) × (p ≡ cubeAt sizes k) × (slots ≡ marks (edgesUpto sizes words k) slots₀) × (count ≡ length (trianglesUpto sizes words k)) × (count ≤ 12 * k)
+Inv-loop words sizes slots₀ n steps counts count₀ k₀ p₀ slots count k p = (k ≤ n) × (p ≡ cubeAt sizes k) × (slots ≡ marks (edgesUpto sizes words k) slots₀) × (count ≡ length (trianglesUpto sizes words k)) × (count ≤ 12 * k)
 
 abbrev μ-loop : tie.MeasureT-loop
-μ-loop words sizes slots₀ n steps each count₀ k₀ p₀ slots count k p = n - k
+μ-loop words sizes slots₀ n steps counts count₀ k₀ p₀ slots count k p = n - k
 
 module _ (c : tie.In-loop Inv-loop μ-loop) where
   below : c .before .loop .k < cubes (c .before .before .before .before .before .before .before .args .sizes)
