@@ -1,10 +1,9 @@
 -- After k cubes those below k are marked and counted; p is the place of cube k. Assumes nothing.
 use borrow.Author.Needs.{needs}
 use mathlib.Core.Path.{_≡_, refl, sym, ap, subst, _∙_}
-use mathlib.Core.List.{List}
 use Prim.Native.Nat.{ℕ, _+_, _-_, _*_, _≤_, _<_}
 use native.Mathlib.Omega.{arith}
-use lib.ListN.{length, getD}
+use lib.ListN.{length}
 use denote.Ref.{now}
 use Rattle.paper.specs.Lattice.{place, samples, cubes, cubeAt}
 use Rattle.paper.specs.Within.{CubeIn}
