@@ -2,8 +2,8 @@
 use paper::Place;
 use paper::Sizes;
 ghost use mathlib.Core.Path.{_≡_};
-ghost use Prim.Native.Nat.{_+_, _≤_, _<_};
-ghost use Rattle.paper.specs.Lattice.{axis, axes, samples, sampleNo, sampleAt, cubes, cubeNo, cubeAt};
+ghost use Prim.Native.Nat.{_+_, _*_, _/_, _%_, _≤_, _<_};
+ghost use Rattle.paper.specs.Lattice.{place, axis, axes, samples, sampleNo, sampleAt, cubes, cubeNo, cubeAt};
 ghost use Rattle.paper.specs.Within.{Sized, SampleIn, CubeIn};
 
 // "An axis has 2 to 64 samples."
@@ -63,6 +63,22 @@ pub fn cube_no(sizes: Sizes, p: Place) -> usize
     p.x + (sizes.nx - 1) * (p.y + (sizes.ny - 1) * p.z)
 }
 
+// The place of number n in rows of w and layers of h rows. Numbers of 32 bits are divided faster.
+pub fn place_of(n: usize, w: usize, h: usize) -> Place
+    requires { ⌜ (n < 4294967296) × (0 < w) × (w ≤ 64) × (0 < h) × (h ≤ 64) ⌝ }
+    ensures { λ r. ⌜ r ≡ place (n % w) (n / w % h) (n / (w * h)) ⌝ }
+{
+    let k = n as u32;
+    let row = w as u32;
+    let rows = h as u32;
+    let q = k / row;
+    Place {
+        x: (k % row) as usize,
+        y: (q % rows) as usize,
+        z: (q / rows) as usize,
+    }
+}
+
 // The place of the cube of a number.
 pub fn cube_at(sizes: Sizes, k: usize) -> Place
     requires { ⌜ Sized sizes × (k < cubes sizes) ⌝ }
@@ -70,12 +86,7 @@ pub fn cube_at(sizes: Sizes, k: usize) -> Place
 {
     let w = sizes.nx - 1;
     let h = sizes.ny - 1;
-    let q = k / w;
-    Place {
-        x: k % w,
-        y: q % h,
-        z: q / h,
-    }
+    place_of(k, w, h)
 }
 
 // The place of the sample of the next number.

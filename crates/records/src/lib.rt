@@ -39,13 +39,7 @@ pub fn anchor_of(sizes: Sizes, e: usize) -> Place
     requires { ⌜ Sized sizes × (e < neededSlots sizes) ⌝ }
     ensures { λ r. ⌜ (r ≡ sampleAt sizes (e / 7)) × SampleIn sizes r ⌝ }
 {
-    let n = e / 7;
-    let q = n / sizes.nx;
-    Place {
-        x: n % sizes.nx,
-        y: q % sizes.ny,
-        z: q / sizes.ny,
-    }
+    lattice::place_of(e / 7, sizes.nx, sizes.ny)
 }
 
 // Whether record i of a file is v.

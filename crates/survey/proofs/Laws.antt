@@ -2,23 +2,22 @@
 use mathlib.Core.Path.{_≡_, refl, sym, ap, subst, _∙_}
 use mathlib.Core.Bool.{Bool, true, false, cond, not}
 use mathlib.Core.List.{List, [], _∷_, _++_, map, map-append, append-assoc, append-nil}
-use Prim.Native.Nat.{ℕ, zero, suc, _+_, _*_, _%_, _≤_, _<_}
+use Prim.Native.Nat.{ℕ, zero, suc, _+_, _≤_, _<_}
 use native.Mathlib.Numerals.{add-one}
 use native.Mathlib.Nat.{zero-add}
 use native.Mathlib.Omega.{arith}
 use native.Mathlib.Decide.{decLt}
-use lib.Dec.{T, eqb}
+use lib.Dec.{eqb}
 use lib.ListN.{length, getD, set, drop, length-set, length-append}
-use lib.Seq.{set-at, getD-at, drop-cons, getD-set-same, getD-set-other}
-use borrow.Author.Tests.{eq-eqb, ne-eqb}
-use Rattle.lists.specs.Lists.{range, consIf, keep, each, isIn}
+use lib.Seq.{set-at, getD-at, drop-cons}
+use Rattle.lists.specs.Lists.{range, consIf, keep, each}
 use Rattle.lists.proofs.Every.{each-le}
 use Rattle.lists.proofs.Runs.{range-snoc, keep-snoc, each-append, length-along, at-along, along-snoc}
 use Rattle.paper.specs.declared.Sizes.{Sizes}
-use Rattle.paper.specs.Tables.{Tri, rows}
+use Rattle.paper.specs.Tables.{rows}
 use Rattle.paper.proofs.Tables.{row-short}
 use Rattle.tetra.specs.Cut.{rowBy, rowCount, localSplit}
-use Rattle.survey.specs.Marks.{marks, used, usedOf, edgesFrom, countBy, counts, edgesIn, trianglesIn, edgesUpto, trianglesUpto, numberIn}
+use Rattle.survey.specs.Marks.{marks, used, usedOf, edgesFrom, countBy, patternCounts, edgesIn, trianglesIn, edgesUpto, trianglesUpto, numberIn}
 
 -- ── marks ──
 
@@ -105,8 +104,8 @@ pub count-few : (m : ℕ) → countBy m ≤ 12
 unfolding countBy
 count-few m = each-le (λ t. getD rows (rowBy m t) []) 2 (λ t. row-short (rowBy m t)) (range 0 6)
 
-pub count-at : (m : ℕ) → m < 256 → getD counts m 0 ≡ countBy m
-unfolding counts
+pub count-at : (m : ℕ) → m < 256 → getD patternCounts m 0 ≡ countBy m
+unfolding patternCounts
 count-at m h = at-along countBy 0 256 m h
 
 module _ (z : Sizes) (words : List ℕ) (k : ℕ) where

@@ -1,5 +1,4 @@
 -- Passes over cube words and edge slots. Assumes nothing.
-use mathlib.Core.Path.{_≡_}
 use mathlib.Core.Bool.{Bool, cond, not}
 use mathlib.Core.List.{List, [], _∷_, map}
 use Prim.Native.Nat.{ℕ, _+_, _*_, _%_, _<_}
@@ -38,8 +37,8 @@ edgesWord steps base word = cond (eqb word 0) [] (edgesFrom steps base (word % 2
 unfoldable pub countBy : ℕ → ℕ
 countBy m = length (each (λ t. getD rows (rowBy m t) []) (range 0 6))
 
-unfoldable pub counts : List ℕ
-counts = map countBy (range 0 256)
+unfoldable pub patternCounts : List ℕ
+patternCounts = map countBy (range 0 256)
 
 unfoldable pub countWord : ℕ → ℕ
 countWord word = cond (eqb word 0) 0 (countBy (word % 256))

@@ -10,7 +10,7 @@ ghost use Rattle.lists.specs.Lists.{range, consIf};
 ghost use Rattle.paper.specs.Lattice.{samples, cubes};
 ghost use Rattle.paper.specs.Within.{Sized};
 ghost use Rattle.tetra.specs.Cut.{tetCorners};
-ghost use Rattle.survey.specs.Marks.{marks, used, usedOf, edgesFrom, edgesWord, countBy, counts, countWord, edgesUpto, trianglesUpto, numberIn, Slotted};
+ghost use Rattle.survey.specs.Marks.{marks, used, usedOf, edgesFrom, edgesWord, countBy, patternCounts, countWord, edgesUpto, trianglesUpto, numberIn, Slotted};
 
 // Slot e becomes 1, where so.
 fn mark_if(slots: &mut [u32], e: usize, so: bool)
@@ -51,27 +51,27 @@ fn count_cube(corners: &[usize; 24], m: usize) -> usize
 
 // The same for all patterns.
 fn pattern_counts() -> [usize; 256]
-    ensures { λ r. ⌜ r ≡ counts ⌝ }
+    ensures { λ r. ⌜ r ≡ patternCounts ⌝ }
 {
     let corners = tetra::tet_corners();
-    let mut each = [0usize; 256];
+    let mut counts = [0usize; 256];
     let mut m = 0;
     while m < 256 {
-        each[m] = count_cube(&corners, m);
+        counts[m] = count_cube(&corners, m);
         m += 1;
     }
-    each
+    counts
 }
 
 // A cube is marked, where it has a word, and its triangles are counted.
 fn mark_word(
     slots: &mut [u32],
     steps: &[usize; 19],
-    each: &[usize; 256],
+    counts: &[usize; 256],
     base: usize,
     word: u16,
 ) -> usize
-    requires { ⌜ Slotted (now steps) base (length (now slots)) × (now each ≡ counts) ⌝ }
+    requires { ⌜ Slotted (now steps) base (length (now slots)) × (now counts ≡ patternCounts) ⌝ }
     ensures { λ r. ⌜ (now (slots .exit) ≡ marks (edgesWord (now (steps .entry)) base word) (now (slots .entry))) × (r ≡ countWord word) × (r ≤ 12) ⌝ }
 {
     if word == 0 {
@@ -79,7 +79,7 @@ fn mark_word(
     }
     let m = (word % 256) as usize;
     mark_cube(slots, steps, base, m);
-    each[m]
+    counts[m]
 }
 
 // The side-changing edges of every cube that has a word get 1 in their slots; the number of triangles is returned.
@@ -89,13 +89,13 @@ pub fn mark_all(words: &[u16], sizes: Sizes, slots: &mut [u32]) -> usize
 {
     let n = lattice::cube_count(sizes);
     let steps = tetra::local_steps(sizes);
-    let each = pattern_counts();
+    let counts = pattern_counts();
     let mut count = 0;
     let mut k = 0;
     let mut p = Place { x: 0, y: 0, z: 0 };
     while k < n {
         let base = 7 * lattice::sample_no(sizes, p);
-        count += mark_word(slots, &steps, &each, base, words[k]);
+        count += mark_word(slots, &steps, &counts, base, words[k]);
         p = lattice::next_cube(sizes, p);
         k += 1;
     }

@@ -1,25 +1,24 @@
 -- Triangles one behind the other, row by row and cube by cube. Assumes nothing.
 use mathlib.Core.Path.{_≡_, refl, sym, ap, subst, _∙_}
-use mathlib.Core.Bool.{Bool, true, false, cond}
-use mathlib.Core.List.{List, [], _∷_, _++_, map, append-nil, append-assoc}
-use Prim.Native.Nat.{ℕ, zero, suc, _+_, _-_, _*_, _%_, _≤_, _<_}
+use mathlib.Core.Bool.{Bool, cond}
+use mathlib.Core.List.{List, [], _∷_, _++_, append-nil}
+use Prim.Native.Nat.{ℕ, _+_, _-_, _*_, _%_, _≤_, _<_}
 use native.Mathlib.Omega.{arith}
 use native.Mathlib.Nat.{zero-add}
 use native.Mathlib.Numerals.{add-one}
 use lib.Dec.{eqb}
-use lib.ListN.{length, getD, take, drop, length-append, length-map, length-take}
+use lib.ListN.{length, getD, take, drop, length-append, length-map}
 use lib.Seq.{sets, sets-eq, length-sets, take-suc, take-all, length-take-le}
 use borrow.Author.Tests.{eq-eqb, ne-eqb}
 use Rattle.lists.specs.Lists.{range, each, over}
 use Rattle.lists.proofs.Every.{each-length}
 use Rattle.lists.proofs.Runs.{each-append}
 use Rattle.paper.specs.declared.Sizes.{Sizes}
-use Rattle.paper.specs.Lattice.{samples, sampleNo, cubes, cubeAt, corner}
-use Rattle.paper.specs.Tables.{Tri, tri, rows, low, kindOf}
+use Rattle.paper.specs.Lattice.{samples, cubes, cubeAt, corner}
+use Rattle.paper.specs.Tables.{Tri, tri, rows, low}
 use Rattle.paper.specs.Sheet.{corners3}
 use Rattle.paper.specs.Within.{Sized}
 use Rattle.paper.proofs.Numbers.{sample-lt, cube-inside, corner-inside}
-use Rattle.lattice.specs.Steps.{cornerStep}
 use Rattle.lattice.proofs.Laws.{corner-no}
 use Rattle.tetra.specs.Cut.{tetEnds, edgeStep, tetStep, rowBy, rowCount, rowEdge, rowTriangles, trianglesBy}
 use Rattle.tetra.proofs.Tables.{low-lt, kind-lt, count-le, edge-six}

@@ -1,7 +1,7 @@
 -- After t tetrahedra their triangles are counted. Assumes nothing.
 use borrow.Author.Needs.{needs}
-use mathlib.Core.Path.{_≡_, refl, sym, ap, _∙_}
-use Prim.Native.Nat.{ℕ, _+_, _-_, _*_, _≤_, _<_}
+use mathlib.Core.Path.{_≡_, ap, _∙_}
+use Prim.Native.Nat.{_+_, _-_, _*_, _≤_}
 use native.Mathlib.Omega.{arith}
 use Rattle.tetra.specs.Cut.{rowCount}
 use Rattle.survey.proofs.Laws.{countTo, count-none, count-row, count-all}

@@ -1,10 +1,9 @@
 -- After k cubes those below k are marked and counted; p is the place of cube k. Assumes nothing.
 use borrow.Author.Needs.{needs}
 use mathlib.Core.Path.{_≡_, refl, sym, ap, subst, _∙_}
-use mathlib.Core.List.{List}
 use Prim.Native.Nat.{ℕ, _+_, _-_, _*_, _≤_, _<_}
 use native.Mathlib.Omega.{arith}
-use lib.ListN.{length, getD}
+use lib.ListN.{length}
 use denote.Ref.{now}
 use Rattle.paper.specs.Lattice.{place, samples, cubes, cubeAt}
 use Rattle.paper.specs.Within.{CubeIn}
@@ -16,10 +15,10 @@ use Rattle.survey.proofs.mark_all.Statement.{statement}
 use Rattle.survey.proofs.mark_all.Tie as tie
 
 abbrev Inv-loop : tie.InvT-loop
-Inv-loop words sizes slots₀ n steps each count₀ k₀ p₀ slots count k p = (k ≤ n) × (p ≡ cubeAt sizes k) × (slots ≡ marks (edgesUpto sizes words k) slots₀) × (count ≡ length (trianglesUpto sizes words k)) × (count ≤ 12 * k)
+Inv-loop words sizes slots₀ n steps counts count₀ k₀ p₀ slots count k p = (k ≤ n) × (p ≡ cubeAt sizes k) × (slots ≡ marks (edgesUpto sizes words k) slots₀) × (count ≡ length (trianglesUpto sizes words k)) × (count ≤ 12 * k)
 
 abbrev μ-loop : tie.MeasureT-loop
-μ-loop words sizes slots₀ n steps each count₀ k₀ p₀ slots count k p = n - k
+μ-loop words sizes slots₀ n steps counts count₀ k₀ p₀ slots count k p = n - k
 
 module _ (c : tie.In-loop Inv-loop μ-loop) where
   below : c .before .loop .k < cubes (c .before .before .before .before .before .before .before .args .sizes)

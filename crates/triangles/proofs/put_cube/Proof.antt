@@ -1,14 +1,13 @@
 -- After t tetrahedra their triangles are written. Assumes nothing.
-use borrow.Author.Needs.{needs}
-use mathlib.Core.Path.{_≡_, refl, sym, ap, subst, _∙_}
-use mathlib.Core.List.{List, [], _++_}
-use Prim.Native.Nat.{ℕ, _+_, _-_, _*_, _≤_, _<_}
+use mathlib.Core.Path.{_≡_, sym, ap, _∙_}
+use mathlib.Core.List.{List}
+use Prim.Native.Nat.{_+_, _-_, _*_, _≤_}
 use native.Mathlib.Omega.{arith}
 use lib.ListN.{length, length-append}
 use lib.Seq.{sets}
 use denote.Ref.{now}
 use Rattle.paper.specs.Tables.{Tri}
-use Rattle.tetra.specs.Cut.{rowBy, rowTriangles, trianglesBy}
+use Rattle.tetra.specs.Cut.{rowBy, rowTriangles}
 use Rattle.triangles.specs.Named.{wordsFor}
 use Rattle.triangles.proofs.Laws.{writtenTo, written-none, written-more, written-length, rowsTo, rows-none, rows-more, rows-all, rows-fit}
 use Rattle.triangles.proofs.put_cube.Statement.{statement}

@@ -1,6 +1,6 @@
 -- Each triangle before i is fresh in its turn, and the bits are those after i. Assumes nothing.
 use mathlib.Core.Path.{_≡_, sym, ap, subst, _∙_}
-use mathlib.Core.Bool.{true, false}
+use mathlib.Core.Bool.{false}
 use mathlib.Core.List.{List}
 use Prim.Native.Nat.{ℕ, _-_, _*_, _≤_, _<_}
 use native.Mathlib.Omega.{arith}
@@ -10,9 +10,8 @@ use denote.Ref.{now}
 use borrow.Author.Count.{below-more}
 use borrow.Author.Tests.{not-true, not-false}
 use Rattle.paper.specs.Lattice.{cubes}
-use Rattle.paper.specs.Tables.{Tri}
 use Rattle.paper.specs.Build.{neededSlots}
-use Rattle.paper.specs.File.{fileV, fileT, fileVertices, fileTriangles}
+use Rattle.paper.specs.File.{fileT, fileVertices, fileTriangles}
 use Rattle.paper.specs.Check.{triangleOf}
 use Rattle.tetra.specs.Cut.{triOf}
 use Rattle.triples.specs.Triples.{Named, Among, Based, fresh, noted, Small, seenAfter, badIn}
