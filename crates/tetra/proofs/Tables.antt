@@ -1,28 +1,24 @@
 -- The code's tables are the definitions', each by a test at every entry. Assumes nothing.
 use mathlib.Core.Path.{_≡_}
+use mathlib.Core.Bool.{Bool}
 use mathlib.Core.List.{List, [], _∷_}
 use Prim.Native.Nat.{ℕ, _-_, _≤_, _<_}
 use native.Mathlib.Omega.{arith}
-use lib.Dec.{eqb, eqb→eq, ltb, ltb→lt, leb, leb→le}
+use lib.Dec.{T, eqb, eqb→eq, ltb, ltb→lt, leb, leb→le}
 use lib.ListN.{getD}
-use Rattle.lists.proofs.Computed.{upto-at, grid-at}
+use Rattle.lists.specs.Lists.{each}
+use Rattle.lists.proofs.Computed.{upto-at, grid, grid-at}
 use Rattle.paper.specs.Tables.{tets, rows, tetEdges, kinds, low, joins, kindOf}
+use Rattle.paper.specs.Sheet.{corners3}
 use Rattle.tetra.specs.Cut.{tetAt, tetCorner, tetEnds, rowCount, rowEdge, locals, localAt}
 
--- the corners of tetrahedra
-unfoldable pub cornerTable : List (List ℕ)
-cornerTable =
-    (0 ∷ 2 ∷ 1 ∷ 4 ∷ [])
-    ∷ (3 ∷ 2 ∷ 4 ∷ 1 ∷ [])
-    ∷ (3 ∷ 2 ∷ 6 ∷ 4 ∷ [])
-    ∷ (3 ∷ 1 ∷ 4 ∷ 5 ∷ [])
-    ∷ (3 ∷ 4 ∷ 6 ∷ 5 ∷ [])
-    ∷ (3 ∷ 6 ∷ 7 ∷ 5 ∷ [])
-    ∷ []
+-- the entries of a table are f's
+unfoldable pub tabled : (ℕ → ℕ → ℕ) → ℕ → ℕ → List (List ℕ) → Bool
+tabled f m n l = grid m n (λ i j. eqb (getD (getD l i []) j 0) (f i j))
 
-pub corner-is : (t j : ℕ) → t < 6 → j < 4 → getD (getD cornerTable t []) j 0 ≡ tetCorner t j
-unfolding cornerTable tetCorner tetAt tets
-corner-is t j ht hj = eqb→eq _ _ (grid-at 6 4 (λ t j. eqb (getD (getD cornerTable t []) j 0) (tetCorner t j)) tt t j ht hj)
+pub tabled-at : (f : ℕ → ℕ → ℕ) (m n : ℕ) (l : List (List ℕ)) → T (tabled f m n l) → (i j : ℕ) → i < m → j < n → getD (getD l i []) j 0 ≡ f i j
+unfolding tabled
+tabled-at f m n l t i j hi hj = eqb→eq _ _ (grid-at m n (λ i j. eqb (getD (getD l i []) j 0) (f i j)) t i j hi hj)
 
 pub tet-corner-lt : (t j : ℕ) → t < 6 → j < 4 → tetCorner t j < 8
 unfolding tetCorner tetAt tets
@@ -50,12 +46,12 @@ kindTable =
     ∷ []
 
 pub low-is : (t j : ℕ) → t < 6 → j < 6 → getD (getD lowTable t []) j 0 ≡ low (tetEnds t j)
-unfolding lowTable tetEnds tetAt tets tetEdges low
-low-is t j ht hj = eqb→eq _ _ (grid-at 6 6 (λ t j. eqb (getD (getD lowTable t []) j 0) (low (tetEnds t j))) tt t j ht hj)
+unfolding tabled lowTable tetEnds tetAt tets tetEdges low
+low-is t j ht hj = tabled-at (λ t j. low (tetEnds t j)) 6 6 lowTable tt t j ht hj
 
 pub kind-is : (t j : ℕ) → t < 6 → j < 6 → getD (getD kindTable t []) j 0 ≡ kindOf (tetEnds t j)
-unfolding kindTable tetEnds tetAt tets tetEdges low joins kinds kindOf
-kind-is t j ht hj = eqb→eq _ _ (grid-at 6 6 (λ t j. eqb (getD (getD kindTable t []) j 0) (kindOf (tetEnds t j))) tt t j ht hj)
+unfolding tabled kindTable tetEnds tetAt tets tetEdges low joins kinds kindOf
+kind-is t j ht hj = tabled-at (λ t j. kindOf (tetEnds t j)) 6 6 kindTable tt t j ht hj
 
 pub low-lt : (t j : ℕ) → t < 6 → j < 6 → low (tetEnds t j) < 8
 unfolding tetEnds tetAt tets tetEdges low
@@ -70,36 +66,17 @@ pub count-le : (r : ℕ) → r < 16 → rowCount r ≤ 2
 unfolding rowCount rows
 count-le r h = leb→le (rowCount r) 2 (upto-at 16 (λ r. leb (rowCount r) 2) tt r h)
 
-unfoldable pub edgeTable : List (List ℕ)
-edgeTable =
-    (0 ∷ 0 ∷ 0 ∷ 0 ∷ 0 ∷ 0 ∷ [])
-    ∷ (5 ∷ 6 ∷ 3 ∷ 0 ∷ 0 ∷ 0 ∷ [])
-    ∷ (2 ∷ 6 ∷ 4 ∷ 0 ∷ 0 ∷ 0 ∷ [])
-    ∷ (3 ∷ 5 ∷ 4 ∷ 3 ∷ 4 ∷ 2 ∷ [])
-    ∷ (1 ∷ 4 ∷ 5 ∷ 0 ∷ 0 ∷ 0 ∷ [])
-    ∷ (3 ∷ 1 ∷ 4 ∷ 3 ∷ 4 ∷ 6 ∷ [])
-    ∷ (1 ∷ 2 ∷ 6 ∷ 1 ∷ 6 ∷ 5 ∷ [])
-    ∷ (1 ∷ 2 ∷ 3 ∷ 0 ∷ 0 ∷ 0 ∷ [])
-    ∷ (1 ∷ 3 ∷ 2 ∷ 0 ∷ 0 ∷ 0 ∷ [])
-    ∷ (1 ∷ 5 ∷ 6 ∷ 1 ∷ 6 ∷ 2 ∷ [])
-    ∷ (1 ∷ 3 ∷ 6 ∷ 1 ∷ 6 ∷ 4 ∷ [])
-    ∷ (1 ∷ 5 ∷ 4 ∷ 0 ∷ 0 ∷ 0 ∷ [])
-    ∷ (3 ∷ 2 ∷ 4 ∷ 3 ∷ 4 ∷ 5 ∷ [])
-    ∷ (6 ∷ 2 ∷ 4 ∷ 0 ∷ 0 ∷ 0 ∷ [])
-    ∷ (5 ∷ 3 ∷ 6 ∷ 0 ∷ 0 ∷ 0 ∷ [])
-    ∷ (0 ∷ 0 ∷ 0 ∷ 0 ∷ 0 ∷ 0 ∷ [])
-    ∷ []
+-- e1 to e6 of a row's triangles as numbers from 1, three to a triangle, and 0 past the last
+unfoldable pub rowNumber : ℕ → ℕ → ℕ
+rowNumber r j = getD (each corners3 (getD rows r [])) j 0
 
-pub edge-is : (r j : ℕ) → r < 16 → j < 6 → getD (getD edgeTable r []) j 0 - 1 ≡ rowEdge r j
-unfolding edgeTable rowEdge rows
-edge-is r j hr hj = eqb→eq _ _ (grid-at 16 6 (λ r j. eqb (getD (getD edgeTable r []) j 0 - 1) (rowEdge r j)) tt r j hr hj)
-
-pub edge-lt : (r j : ℕ) → r < 16 → j < 6 → getD (getD edgeTable r []) j 0 < 7
-unfolding edgeTable
-edge-lt r j hr hj = ltb→lt _ 7 (grid-at 16 6 (λ r j. ltb (getD (getD edgeTable r []) j 0) 7) tt r j hr hj)
+pub number-lt : (r j : ℕ) → r < 16 → j < 6 → rowNumber r j < 7
+unfolding rowNumber rows
+number-lt r j hr hj = ltb→lt (rowNumber r j) 7 (grid-at 16 6 (λ r j. ltb (rowNumber r j) 7) tt r j hr hj)
 
 pub edge-six : (r j : ℕ) → r < 16 → j < 6 → rowEdge r j < 6
-edge-six r j hr hj = omega (arith, edge-is r j hr hj, edge-lt r j hr hj)
+unfolding rowEdge rowNumber
+edge-six r j hr hj = omega (arith, number-lt r j hr hj)
 
 -- the 19 edges
 pub local-lt : (j k : ℕ) → j < 19 → k < 4 → localAt j k < 8
