@@ -3,7 +3,8 @@
 # make trials: the proved library and the tool against the second mesher, on random input.
 # make bench:  the proved library beside a hand-written C mesher.
 # make fuzz:   random and mutated input, for ten minutes.
-.PHONY: test host trials demo bench fuzz
+# make memory: the same under valgrind, 20,000 rounds.
+.PHONY: test host trials demo bench fuzz memory
 
 test:
 	bash .ci/run
@@ -20,7 +21,11 @@ demo: host
 	sh host/demo.sh
 
 bench:
-	sh host/bench.sh
+	sh host/own.sh bench
 
 fuzz: host
 	host/target/release/fuzz 10m
+
+memory:
+	command -v valgrind >/dev/null || { apt-get update -qq && apt-get install -y -qq valgrind; }
+	sh host/own.sh valgrind -q --error-exitcode=9 fuzz 20000

@@ -1,6 +1,6 @@
 //! `bench [REPEATS]`: the proved library beside the hand-written C mesher, on three 64x64x64 volumes.
 //!
-//! `make bench` builds it so that the library's code is this processor's (see bench.sh).
+//! `make bench` builds it so that the library's code is this processor's (see own.sh).
 
 use host::abi::{self, Work};
 use std::time::{Duration, Instant};

@@ -1,12 +1,11 @@
 #!/bin/sh
-# native.sh FOLDER: FOLDER/libcabi.a, the proved library's module compiled for this processor. For times alone: the library that
-# is proved, tested and shipped is the x86-64 one of `rt staticlib`.
+# library.sh FOLDER: FOLDER/libcabi.a, the proved library's module compiled for this processor (see own.sh).
 #
 # The kit's compiler is called through a copy of the kit made of links, whose clang keeps the module that it is given.
 set -eu
 here=$(cd "$(dirname "$0")" && pwd)
 machine=$(uname -m)
-[ -f "$here/exports-$machine.ll" ] || { echo "native.sh: no calling convention for $machine is written down" >&2; exit 1; }
+[ -f "$here/exports-$machine.ll" ] || { echo "library.sh: no calling convention for $machine is written down" >&2; exit 1; }
 kit=${RATTLE_HOME:-$(dirname "$(dirname "$(readlink -f "$(command -v rt)")")")}
 own=on/$machine/toolchain/bin
 rm -rf "$1"
