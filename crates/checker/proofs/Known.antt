@@ -36,7 +36,7 @@ use Rattle.tetra.specs.Cut.{trianglesBy, localSplit, localStep, localSteps, edg
 use Rattle.tetra.proofs.Laws.{cube-triangles-by, cube-edges-by}
 use Rattle.flood.specs.Flooded.{wordOf, wordsOf}
 use Rattle.survey.specs.Marks.{marks, used, usedOf, numberIn, baseOf, edgesFrom, edgesWord, edgesIn, edgesUpto, trianglesIn, trianglesUpto}
-use Rattle.records.specs.Records.{Crossing}
+use Rattle.measure.specs.Crossed.{AllCross}
 use Rattle.triples.specs.Triples.{Small}
 use Rattle.checker.specs.declared.Counts.{Counts}
 use Rattle.checker.specs.Checked.{marked, Prepared, Roomy}
@@ -295,7 +295,7 @@ module _ (L : Lattice) (start : ℕ) (s : Sized (L .size)) (h : start < cubes (L
   pub small : Small (cubes (L .size)) (after .waiting)
   small = record { at = λ k l. omega (arith, waiting-blank k l) }
 
-  pub crossing : Crossing L (after .slots)
+  pub crossing : AllCross L (after .slots)
   crossing = record {
     at = λ e l t.
         let t′ = subst T (any-each (eqb e) (cubeEdges L) vs) (subst T (slot-used e l ∙ m-used e l) t) in

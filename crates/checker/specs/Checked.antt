@@ -18,7 +18,8 @@ use Rattle.paper.specs.Check.{Work, work, sheetTests}
 use Rattle.flood.specs.Flooded.{wordsOf, Beyond}
 use Rattle.survey.specs.Marks.{marks, usedOf, numberIn, edgesUpto, trianglesUpto}
 use Rattle.layout.specs.Laid.{LaidOut}
-use Rattle.records.specs.Records.{Crossing, firstBadIn as firstBadRecord}
+use Rattle.measure.specs.Crossed.{AllCross}
+use Rattle.records.specs.Records.{firstBadIn as firstBadRecord}
 use Rattle.triples.specs.Triples.{Small, Sure, firstBadIn as firstBadTriple}
 use Rattle.checker.specs.declared.Counts.{Counts}
 
@@ -67,7 +68,7 @@ clean z w = work (cleared (needed z) (w .words)) (cleared (needed z) (w .waiting
 pub record Comparable (L : Lattice) (bs : List ℕ) (w : Work) : Type 0 where
   pub full : Full L
   pub laid : LaidOut bs
-  pub crossing : Crossing L (w .slots)
+  pub crossing : AllCross L (w .slots)
   pub small : Small (cubes (L .size)) (w .waiting)
   pub sure : Sure (L .size) (w .words)
 

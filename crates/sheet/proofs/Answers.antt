@@ -1,8 +1,8 @@
 -- The answer of a build and what it leaves, refusal by refusal. Assumes nothing.
-use mathlib.Core.Path.{_≡_, refl, sym, ap, subst, _∙_}
+use mathlib.Core.Path.{_≡_, refl, sym, ap, _∙_}
 use mathlib.Core.Bool.{Bool, true, false, cond}
-use mathlib.Core.List.{List, [], _∷_, _++_}
-use Prim.Native.Nat.{ℕ, zero, suc, _*_, _/_, _≤_, _<_}
+use mathlib.Core.List.{List, [], _∷_}
+use Prim.Native.Nat.{ℕ, zero, suc, _≤_}
 use native.Mathlib.Omega.{arith}
 use lib.Dec.{eqb, leb}
 use lib.IntN.{ℤ}
@@ -18,9 +18,10 @@ use Rattle.paper.specs.Tests.{Test, test, judge}
 use Rattle.paper.specs.Build.{Lent, lent, vertexRoom, triangleRoom, needed, neededSlots, roomy, named, startOf, starts, sampleTests, roomTests, buildNumber, counted, uncounted, built, workAfter, outputAfter, lentAfter, Builds}
 use Rattle.paper.proofs.Judged.{Numbered, judge-all, judge-past, judge-stop}
 use Rattle.flood.specs.Flooded.{wordsOf}
-use Rattle.sheet.specs.declared.Counts.{Counts}
-use Rattle.sheet.specs.Measured.{slotsOf, countsOf, roomTestsBy, Measured}
-use Rattle.sheet.proofs.Measuring.{clear-front, clear-beyond, words-length, slots-length}
+use Rattle.measure.specs.declared.Counts.{Counts}
+use Rattle.measure.specs.Measured.{slotsOf, countsOf, Measured}
+use Rattle.measure.proofs.Measuring.{clear-front, clear-beyond, words-length, slots-length}
+use Rattle.sheet.specs.Rooms.{roomTestsBy}
 
 -- ── numbers 1 to 5 ──
 

@@ -1,11 +1,11 @@
 -- A flood, marks and numbers leave the sheet measured. Assumes nothing.
 use mathlib.Core.Path.{_≡_, refl, sym, ap, subst, _∙_}
-use mathlib.Core.Bool.{Bool, cond}
+use mathlib.Core.Bool.{cond}
 use mathlib.Core.List.{List, _++_, map}
-use Prim.Native.Nat.{ℕ, _+_, _*_, _≤_, _<_}
+use Prim.Native.Nat.{ℕ, _+_, _≤_, _<_}
 use native.Mathlib.Omega.{arith}
 use lib.Dec.{T}
-use lib.ListN.{length, drop, replicate, length-replicate, length-map}
+use lib.ListN.{length, drop, replicate, length-map}
 use lib.Seq.{drop-at}
 use Rattle.lists.specs.Lists.{range, keep, each, isIn, rank, over, cleared}
 use Rattle.lists.proofs.Every.{All, in-all, all-in}
@@ -19,9 +19,9 @@ use Rattle.paper.specs.Within.{Sized}
 use Rattle.paper.proofs.Listing.{edges-exactly, edges-lt, visits-lt}
 use Rattle.flood.specs.Flooded.{wordOf, wordsOf, Beyond}
 use Rattle.survey.specs.Marks.{marks, usedOf, edgesUpto, trianglesUpto, numberIn}
-use Rattle.sheet.specs.Measured.{slotsOf}
-use Rattle.sheet.proofs.Words.{all-triangles, all-edges}
-use Rattle.sheet.proofs.Slots.{used-is, numbers-are}
+use Rattle.measure.specs.Measured.{slotsOf}
+use Rattle.measure.proofs.Words.{all-triangles, all-edges}
+use Rattle.measure.proofs.Slots.{used-is, numbers-are}
 
 module _ (L : Lattice) (s : Sized (L .size)) (start : ℕ) (words w₀ : List ℕ) (e : words ≡ over (wordsOf L (visited L start)) w₀) where
   abbrev z : Sizes
