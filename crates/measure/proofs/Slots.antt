@@ -41,6 +41,9 @@ pub cleared-at : (n : ℕ) (l : List ℕ) (k : ℕ) → k < n → getD (cleared 
 cleared-at n l k h =
     List·getD-append (replicate n 0) (drop n l) 0 k (omega (arith, length-replicate {A = ℕ} n 0)) ∙ getD-replicate n k 0 0 h
 
+pub cleared-rest : (n : ℕ) (l : List ℕ) → drop n (cleared n l) ≡ drop n l
+cleared-rest n l = drop-at (replicate n 0) (drop n l) n (length-replicate n 0)
+
 module _ (n : ℕ) (s₀ marked : List ℕ) (fits : n ≤ length s₀) (below : All (λ e. e < n) marked) where
   abbrev now : List ℕ
   now = marks marked (cleared n s₀)
@@ -84,5 +87,5 @@ module _ (n : ℕ) (s₀ marked : List ℕ) (fits : n ≤ length s₀) (below : 
       let f : map (numberIn now) (range 0 n) ≡ map (λ e. cond (isIn es e) (rank es e + 1) 0) (range 0 n) =
       map-same-in (numberIn now) (λ e. cond (isIn es e) (rank es e + 1) 0) (range 0 n)
       (in-all (λ e. numberIn now e ≡ cond (isIn es e) (rank es e + 1) 0) (range 0 n) (λ e t. number-is e (omega (arith, range-in 0 n e t)))) in
-      let r : drop n now ≡ drop n s₀ = marks-beyond n marked (cleared n s₀) below ∙ drop-at (replicate n 0) (drop n s₀) n (length-replicate n 0) in
+      let r : drop n now ≡ drop n s₀ = marks-beyond n marked (cleared n s₀) below ∙ cleared-rest n s₀ in
       (λ i. f i ++ r i) ∙ ap (λ (k : ℕ). map (λ e. cond (isIn es e) (rank es e + 1) 0) (range 0 n) ++ drop k s₀) (sym (length-along (λ e. cond (isIn es e) (rank es e + 1) 0) 0 n))

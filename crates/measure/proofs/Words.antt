@@ -31,6 +31,10 @@ edges-from z base m =
     (all-keep (λ j. base + getD (localSteps z) j 0 ≡ base + localStep z j) (localSplit m) (range 0 19)
     (in-all (λ j. T (localSplit m j) → base + getD (localSteps z) j 0 ≡ base + localStep z j) (range 0 19) (λ j t _. ap (λ (n : ℕ). base + n) (at-along (localStep z) 0 19 j (omega (arith, range-in 0 19 j t))))))
 
+pub words-length : (L : Lattice) (vs : List ℕ) → length (wordsOf L vs) ≡ cubes (L .size)
+unfolding wordsOf
+words-length L vs = length-along (λ k. cond (isIn vs k) (wordOf L k) 0) 0 (cubes (L .size))
+
 module _ (L : Lattice) (start : ℕ) (words w₀ : List ℕ) (e : words ≡ over (wordsOf L (visited L start)) w₀) where
   abbrev z : Sizes
   z = L .size
@@ -41,9 +45,8 @@ module _ (L : Lattice) (start : ℕ) (words w₀ : List ℕ) (e : words ≡ over
   pub word-at : (k : ℕ) → k < cubes z → getD words k 0 ≡ cond (isIn vs k) (wordOf L k) 0
   unfolding wordsOf
   word-at k h =
-      let g = length-along (λ k. cond (isIn vs k) (wordOf L k) 0) 0 (cubes z) in
       ap (λ (l : List ℕ). getD l k 0) e
-      ∙ (List·getD-append (wordsOf L vs) (drop (length (wordsOf L vs)) w₀) 0 k (omega arith) ∙ at-along (λ k. cond (isIn vs k) (wordOf L k) 0) 0 (cubes z) k h)
+      ∙ (List·getD-append (wordsOf L vs) (drop (length (wordsOf L vs)) w₀) 0 k (omega (arith, words-length L vs)) ∙ at-along (λ k. cond (isIn vs k) (wordOf L k) 0) 0 (cubes z) k h)
 
   -- a visited cube's word holds its pattern, another's is 0
   visited-word : (k : ℕ) → k < cubes z → isIn vs k ≡ true → (getD words k 0 ≡ 0 → ⊥) × (getD words k 0 % 256 ≡ patternAt L (cubeAt z k))
