@@ -1,27 +1,25 @@
 -- Tests in order, and what they leave: answers one by one. Assumes nothing.
 use mathlib.Core.Path.{_≡_, refl, sym, ap, subst, _∙_}
-use mathlib.Core.Bool.{false, and-false}
-use mathlib.Core.List.{List, _++_}
+use mathlib.Core.Bool.{and-false}
+use mathlib.Core.List.{List}
 use Prim.Native.Nat.{ℕ, _<_}
-use lib.Dec.{eqb}
 use lib.IntN.{ℤ}
-use lib.ListN.{length, drop, replicate}
+use lib.ListN.{length, drop}
 use borrow.Author.Tests.{eq-eqb, ne-eqb}
-use Rattle.lists.specs.Lists.{cleared}
 use Rattle.paper.specs.declared.Sizes.{Sizes}
 use Rattle.paper.specs.Lattice.{Lattice, cubes}
-use Rattle.paper.specs.Tests.{Test, verdict, judge}
+use Rattle.paper.specs.Tests.{verdict, judge}
 use Rattle.paper.specs.Build.{needed, neededSlots}
 use Rattle.paper.specs.File.{fileV, fileT, fileVertices, fileTriangles}
 use Rattle.paper.specs.Check.{Work}
 use Rattle.flood.specs.Flooded.{Beyond}
+use Rattle.measure.specs.declared.Counts.{Counts}
 use Rattle.records.specs.Records.{edgeAt, firstBadIn as firstBadRecord, slotsAfter}
 use Rattle.records.proofs.Laws.{after-length as slots-length}
 use Rattle.records.proofs.Meaning.{edge-below, first-rest as slots-rest}
 use Rattle.triples.specs.Triples.{Named, firstBadIn as firstBadTriple, seenAfter}
 use Rattle.triples.proofs.Laws.{after-length as seen-length}
 use Rattle.triples.proofs.Meaning.{first-rest as seen-rest}
-use Rattle.checker.specs.declared.Counts.{Counts}
 use Rattle.checker.specs.Checked.{foundTests}
 
 -- ── tests 17 to 19 ──
@@ -85,10 +83,3 @@ seen-beyond z words vs ts nt seen after j e q = record {
 pub all-named : (L : Lattice) (vs : List ℤ) (slots : List ℕ) (nv : ℕ) → firstBadRecord L vs slots nv ≡ nv → Named (neededSlots (L .size)) vs nv
 unfolding edgeAt
 all-named L vs slots nv e = record { below = λ i h. edge-below L vs slots nv i (subst (λ (n : ℕ). i < n) (sym e) h) }
-
--- a front that is cleared, whatever it was
-pub cleared-again : (n : ℕ) (l m : List ℕ) → drop n m ≡ drop n l → cleared n m ≡ cleared n l
-cleared-again n l m e = ap (λ (r : List ℕ). replicate n 0 ++ r) e
-
-pub beyond-cleared : {n : ℕ} {l m : List ℕ} → Beyond n l m → cleared n m ≡ cleared n l
-beyond-cleared {n} {l} {m} b = cleared-again n l m (b .rest)

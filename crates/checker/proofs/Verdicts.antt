@@ -6,85 +6,131 @@ use Prim.Native.Nat.{ℕ, _<_}
 use native.Mathlib.Omega.{arith}
 use lib.Dec.{eqb}
 use lib.IntN.{ℤ}
-use lib.ListN.{drop}
+use lib.ListN.{length, getD, drop, replicate, length-map}
 use borrow.Author.Tests.{eqb-true}
 use Rattle.lists.specs.Lists.{range, first, isIn, cleared}
 use Rattle.lists.proofs.Every.{All}
 use Rattle.paper.specs.declared.Sizes.{Sizes}
 use Rattle.paper.specs.declared.Start.{Start}
 use Rattle.paper.specs.declared.Verdict.{Verdict}
-use Rattle.paper.specs.Lattice.{Lattice, cubes}
-use Rattle.paper.specs.Sheet.{Sheet, sheetOf}
-use Rattle.paper.specs.Within.{Sized}
+use Rattle.paper.specs.Lattice.{Lattice, cubes, visited}
+use Rattle.paper.specs.Sheet.{Sheet, numbered, sheetOf}
+use Rattle.paper.specs.Within.{Sized, Full}
 use Rattle.paper.specs.Tests.{Test, verdict, judge}
 use Rattle.paper.specs.Build.{needed, neededSlots, startOf, sampleTests, workAfter}
 use Rattle.paper.specs.File.{fileV, fileT, fileSizes, fileVertices, fileTriangles, fileTests}
 use Rattle.paper.specs.Check.{Work, work, sameSizes, badRecord, badNaming, complete, sheetTests, checked}
 use Rattle.paper.proofs.Judged.{Numbered, numbered-both, judge-past, judge-stop}
+use Rattle.paper.proofs.Listing.{edges-lt}
+use Rattle.flood.specs.Flooded.{wordOf, Beyond}
+use Rattle.layout.specs.Laid.{LaidOut}
 use Rattle.layout.proofs.Passing.{file-numbered}
+use Rattle.measure.specs.declared.Counts.{Counts}
+use Rattle.measure.specs.Measured.{Measured}
+use Rattle.measure.proofs.Words.{word-at}
+use Rattle.measure.proofs.Slots.{cleared-at, cleared-rest}
+use Rattle.measure.proofs.Measuring.{clear-beyond, undone}
+use Rattle.measure.proofs.Crossed.{slot-used, all-cross}
 use Rattle.records.specs.Records.{firstBadIn as firstBadRecord}
 use Rattle.records.proofs.Firsts.{first-before}
 use Rattle.records.proofs.Meaning.{first-bad-is as bad-record-is}
 use Rattle.triples.specs.Triples.{firstBadIn as firstBadTriple}
 use Rattle.triples.proofs.Meaning.{first-bad-is as bad-triple-is}
-use Rattle.checker.specs.declared.Counts.{Counts}
-use Rattle.checker.specs.Checked.{Prepared, Roomy, foundTests, lastTests}
-use Rattle.checker.proofs.Known.{used-are, edges-below, words-are, waiting-blank, vertices-are, triangles-are, long}
+use Rattle.checker.specs.Checked.{Roomy, Comparable, clean, foundTests, lastTests}
 use Rattle.checker.proofs.Complete.{complete-is}
+use Rattle.checker.proofs.Spots.{sure}
 
 -- ── tests 17 to 19 ──
 
-module _ (L : Lattice) (start : ℕ) (s : Sized (L .size)) (h : start < cubes (L .size)) (before : Work) (room : Roomy (L .size) before) (r : Counts)
-    (after : Work) (p : Prepared L start before r after) (bs : List ℕ) where
+-- words, waiting and slots as measuring leaves them, and blank the cleared waiting list
+module _ (L : Lattice) (s : Sized (L .size)) (start : ℕ) (h : start < cubes (L .size)) (before : Work) (words waiting slots : List ℕ) (r : Counts)
+    (m : Measured L start (before .words) (before .waiting) (before .slots) words waiting slots r) (blank : List ℕ)
+    (e : blank ≡ cleared (needed (L .size)) waiting) where
+  abbrev z : Sizes
+  z = L .size
+
   abbrev S : Sheet
   S = sheetOf L start
 
-  abbrev vs : List ℤ
-  vs = fileVertices bs
+  words-are : (k : ℕ) → k < cubes z → getD words k 0 ≡ cond (isIn (visited L start) k) (wordOf L k) 0
+  words-are = word-at L start words (before .words) (m .marked)
 
-  abbrev ts : List ℕ
-  ts = fileTriangles bs
+  blank-at : (k : ℕ) → k < cubes z → getD blank k 0 ≡ 0
+  blank-at k l = ap (λ (x : List ℕ). getD x k 0) e ∙ cleared-at (needed z) waiting k l
 
-  abbrev i : ℕ
-  i = first (badRecord L S vs) (fileV bs) (range 0 (fileV bs))
+  pub comparable : Full L → (bs : List ℕ) → LaidOut bs → Comparable L bs (work words blank slots)
+  comparable full bs laid = record {
+    full = full;
+    laid = laid;
+    crossing = all-cross L s start slots (before .slots) (m .numbered);
+    small = record { at = λ k l. omega (arith, blank-at k l) };
+    sure = sure L s start h words words-are;
+  }
 
-  abbrev j : ℕ
-  j = first (badNaming S vs ts) (fileT bs) (range 0 (fileT bs))
+  -- what is left of a comparison is cleared to what measuring found
+  pub cleaned : (waiting′ slots′ : List ℕ) → Beyond (needed z) blank waiting′ → Beyond (neededSlots z) slots slots′ → clean z (work words waiting′ slots′) ≡ clean z before
+  cleaned waiting′ slots′ b c =
+      let u = undone L start (before .words) (before .waiting) (before .slots) words waiting slots r m in
+      let q =
+      clear-beyond (needed z) blank waiting′ b
+      ∙ (ap (λ (l : List ℕ). replicate (needed z) 0 ++ l) (ap (drop (needed z)) e ∙ cleared-rest (needed z) waiting) ∙ u .1) in
+      let n = clear-beyond (neededSlots z) slots slots′ c ∙ u .2 in
+      λ i. work (u .0 i) (q i) (n i)
 
-  record-is : firstBadRecord L vs (after .slots) (fileV bs) ≡ i
-  record-is =
-      bad-record-is L S vs (after .slots) (used-are L start s h before room r after p) (edges-below L start s h before room r after p)
-      (long L start s h before room r after p .slots) (fileV bs)
+  module _ (room : Roomy z (work words blank slots)) (bs : List ℕ) where
+    abbrev vs : List ℤ
+    vs = fileVertices bs
 
-  triple-is : firstBadTriple (L .size) (after .words) vs ts (after .waiting) (fileT bs) ≡ j
-  triple-is =
-      bad-triple-is L s start (after .words) (words-are L start s h before room r after p) vs ts (after .waiting)
-      (long L start s h before room r after p .waiting) (waiting-blank L start s h before room r after p) (fileT bs)
+    abbrev ts : List ℕ
+    ts = fileTriangles bs
 
-  counted : i ≡ fileV bs → j ≡ fileT bs
-      → (eqb (fileV bs) (r .vertices) && eqb (fileT bs) (r .triangles)) ≡ complete S vs ts (fileV bs) (fileT bs)
-  counted e f =
-      (λ k. eqb (fileV bs) (vertices-are L start s h before room r after p k) && eqb (fileT bs) (triangles-are L start s h before room r after p k))
-      ∙ complete-is L s start h vs ts (fileT bs)
-      (λ k l. first-before (badNaming S vs ts) (fileT bs) k (subst (λ (n : ℕ). k < n) (sym f) l)) (fileV bs)
-      (λ k l. first-before (badRecord L S vs) (fileV bs) k (subst (λ (n : ℕ). k < n) (sym e) l))
+    abbrev i : ℕ
+    i = first (badRecord L S vs) (fileV bs) (range 0 (fileV bs))
 
-  -- what the work slices tell is what the sheet tells
-  pub same-answer : judge (foundTests L bs r after) ≡ judge (lastTests L start bs)
-  unfolding foundTests lastTests sheetTests
-  same-answer =
-      (λ k.
-      cond (eqb (record-is k) (fileV bs))
-      (cond (eqb (triple-is k) (fileT bs)) (cond (eqb (fileV bs) (r .vertices) && eqb (fileT bs) (r .triangles)) (verdict 0 0) (verdict 19 0)) (verdict 18 (triple-is k)))
-      (verdict 17 (record-is k)))
-      ∙ go (eqb i (fileV bs)) (eqb j (fileT bs)) refl refl
-    where
-      go : (a b : Bool) → eqb i (fileV bs) ≡ a → eqb j (fileT bs) ≡ b
-          → cond a (cond b (cond (eqb (fileV bs) (r .vertices) && eqb (fileT bs) (r .triangles)) (verdict 0 0) (verdict 19 0)) (verdict 18 j)) (verdict 17 i)
-          ≡ cond a (cond b (cond (complete S vs ts (fileV bs) (fileT bs)) (verdict 0 0) (verdict 19 0)) (verdict 18 j)) (verdict 17 i)
-      go true true e f = ap (λ (x : Bool). cond x (verdict 0 0) (verdict 19 0)) (counted (eqb-true i (fileV bs) e) (eqb-true j (fileT bs) f))
-      go true false e f = refl
-      go false b e f = refl
+    abbrev j : ℕ
+    j = first (badNaming S vs ts) (fileT bs) (range 0 (fileT bs))
+
+    edges-below : All (λ e. e < neededSlots z) (S .edges)
+    unfolding sheetOf
+    edges-below = edges-lt L (visited L start)
+
+    record-is : firstBadRecord L vs slots (fileV bs) ≡ i
+    record-is = bad-record-is L S vs slots (slot-used L s start slots (before .slots) (m .numbered)) edges-below (room .slots) (fileV bs)
+
+    triple-is : firstBadTriple z words vs ts blank (fileT bs) ≡ j
+    triple-is = bad-triple-is L s start words words-are vs ts blank (room .waiting) blank-at (fileT bs)
+
+    vertices-are : r .vertices ≡ length (S .edges)
+    vertices-are = ap (λ (c : Counts). c .vertices) (m .counts)
+
+    triangles-are : r .triangles ≡ length (S .byEdge)
+    unfolding sheetOf
+    triangles-are = ap (λ (c : Counts). c .triangles) (m .counts) ∙ length-map (S .byEdge) (numbered (S .edges))
+
+    counted : i ≡ fileV bs → j ≡ fileT bs
+        → (eqb (fileV bs) (r .vertices) && eqb (fileT bs) (r .triangles)) ≡ complete S vs ts (fileV bs) (fileT bs)
+    counted o f =
+        (λ k. eqb (fileV bs) (vertices-are k) && eqb (fileT bs) (triangles-are k))
+        ∙ complete-is L s start h vs ts (fileT bs)
+        (λ k l. first-before (badNaming S vs ts) (fileT bs) k (subst (λ (n : ℕ). k < n) (sym f) l)) (fileV bs)
+        (λ k l. first-before (badRecord L S vs) (fileV bs) k (subst (λ (n : ℕ). k < n) (sym o) l))
+
+    -- what the work slices tell is what the sheet tells
+    pub same-answer : judge (foundTests L bs r (work words blank slots)) ≡ judge (lastTests L start bs)
+    unfolding foundTests lastTests sheetTests
+    same-answer =
+        (λ k.
+        cond (eqb (record-is k) (fileV bs))
+        (cond (eqb (triple-is k) (fileT bs)) (cond (eqb (fileV bs) (r .vertices) && eqb (fileT bs) (r .triangles)) (verdict 0 0) (verdict 19 0)) (verdict 18 (triple-is k)))
+        (verdict 17 (record-is k)))
+        ∙ go (eqb i (fileV bs)) (eqb j (fileT bs)) refl refl
+      where
+        go : (a b : Bool) → eqb i (fileV bs) ≡ a → eqb j (fileT bs) ≡ b
+            → cond a (cond b (cond (eqb (fileV bs) (r .vertices) && eqb (fileT bs) (r .triangles)) (verdict 0 0) (verdict 19 0)) (verdict 18 j)) (verdict 17 i)
+            ≡ cond a (cond b (cond (complete S vs ts (fileV bs) (fileT bs)) (verdict 0 0) (verdict 19 0)) (verdict 18 j)) (verdict 17 i)
+        go true true e f = ap (λ (x : Bool). cond x (verdict 0 0) (verdict 19 0)) (counted (eqb-true i (fileV bs) e) (eqb-true j (fileT bs) f))
+        go true false e f = refl
+        go false b e f = refl
 
 -- ── tests one behind the other ──
 

@@ -1,41 +1,26 @@
 -- What the parts of a check leave and answer. Assumes nothing.
 use mathlib.Core.Path.{_≡_}
 use mathlib.Core.Bool.{_&&_}
-use mathlib.Core.List.{List, [], _∷_, _++_, map}
+use mathlib.Core.List.{List, [], _∷_}
 use Prim.Native.Nat.{ℕ, _≤_}
 use lib.Dec.{eqb}
 use lib.ListN.{length, drop}
-use Rattle.lists.specs.Lists.{range, over, cleared}
+use Rattle.lists.specs.Lists.{cleared}
 use Rattle.paper.specs.declared.Sizes.{Sizes}
 use Rattle.paper.specs.declared.Verdict.{Verdict}
-use Rattle.paper.specs.Lattice.{Lattice, cubes, visited}
+use Rattle.paper.specs.Lattice.{Lattice, cubes}
 use Rattle.paper.specs.Within.{Full}
 use Rattle.paper.specs.Tests.{Test, test, testAt, judge}
 use Rattle.paper.specs.Sheet.{sheetOf}
 use Rattle.paper.specs.Build.{needed, neededSlots}
 use Rattle.paper.specs.File.{fileV, fileT, fileVertices, fileTriangles}
 use Rattle.paper.specs.Check.{Work, work, sheetTests}
-use Rattle.flood.specs.Flooded.{wordsOf, Beyond}
-use Rattle.survey.specs.Marks.{marks, usedOf, numberIn, edgesUpto, trianglesUpto}
+use Rattle.flood.specs.Flooded.{Beyond}
 use Rattle.layout.specs.Laid.{LaidOut}
-use Rattle.records.specs.Records.{Crossing, firstBadIn as firstBadRecord}
+use Rattle.measure.specs.declared.Counts.{Counts}
+use Rattle.measure.specs.Crossed.{AllCross}
+use Rattle.records.specs.Records.{firstBadIn as firstBadRecord}
 use Rattle.triples.specs.Triples.{Small, Sure, firstBadIn as firstBadTriple}
-use Rattle.checker.specs.declared.Counts.{Counts}
-
--- the slots of the side-changing edges of the cubes with words are 1, the other needed ones 0
-unfoldable pub marked : Lattice → List ℕ → List ℕ → List ℕ
-marked L words slots = marks (edgesUpto (L .size) words (cubes (L .size))) (cleared (neededSlots (L .size)) slots)
-
--- the work slices where the sheet is known: the words of the visited cubes, an empty list, and numbered slots
-pub record Prepared (L : Lattice) (start : ℕ) (before : Work) (r : Counts) (after : Work) : Type 0 where
-  pub words : after .words ≡ over (wordsOf L (visited L start)) (before .words)
-  pub waiting : after .waiting ≡ cleared (needed (L .size)) (before .waiting)
-  pub slots :
-      after .slots
-      ≡ map (numberIn (marked L (after .words) (before .slots))) (range 0 (neededSlots (L .size)))
-      ++ drop (neededSlots (L .size)) (marked L (after .words) (before .slots))
-  pub vertices : r .vertices ≡ length (usedOf (marked L (after .words) (before .slots)) (neededSlots (L .size)))
-  pub triangles : r .triangles ≡ length (trianglesUpto (L .size) (after .words) (cubes (L .size)))
 
 -- tests 17 to 19, by the work slices and the sheet's counts
 unfoldable pub foundTests : Lattice → List ℕ → Counts → Work → List Test
@@ -63,11 +48,11 @@ pub record Roomy (z : Sizes) (w : Work) : Type 0 where
 abbrev pub clean : Sizes → Work → Work
 clean z w = work (cleared (needed z) (w .words)) (cleared (needed z) (w .waiting)) (cleared (neededSlots z) (w .slots))
 
--- what is asked for comparing: a lattice, a file and work slices as a sheet's preparation leaves them
+-- what is asked for comparing: a lattice, a file and work slices as a measured sheet leaves them, with an empty waiting list
 pub record Comparable (L : Lattice) (bs : List ℕ) (w : Work) : Type 0 where
   pub full : Full L
   pub laid : LaidOut bs
-  pub crossing : Crossing L (w .slots)
+  pub crossing : AllCross L (w .slots)
   pub small : Small (cubes (L .size)) (w .waiting)
   pub sure : Sure (L .size) (w .words)
 

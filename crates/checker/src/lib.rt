@@ -1,21 +1,16 @@
 // The checker: a sheet file against its samples and a start.
+use measure::Counts;
 use paper::Sizes;
 use paper::Start;
 use paper::Verdict;
 ghost use mathlib.Core.Path.{_≡_};
 ghost use Prim.Native.Nat.{_<_};
 ghost use Rattle.paper.specs.Lattice.{lattice, cubes};
-ghost use Rattle.paper.specs.Within.{Sized, Full};
+ghost use Rattle.paper.specs.Within.{Full};
 ghost use Rattle.paper.specs.Tests.{judge};
 ghost use Rattle.paper.specs.Check.{sameSizes, work, Checks};
 ghost use Rattle.layout.specs.Laid.{LaidOut};
-ghost use Rattle.checker.specs.Checked.{Prepared, Compared, Comparable, Roomy, clean, lastTests};
-
-// How many vertices and triangles the sheet has.
-pub struct Counts {
-    pub vertices: usize,
-    pub triangles: usize,
-}
+ghost use Rattle.checker.specs.Checked.{Compared, Comparable, Roomy, clean, lastTests};
 
 fn same_sizes(a: Sizes, b: Sizes) -> bool
     ensures { λ r. ⌜ r ≡ sameSizes a b ⌝ }
@@ -29,31 +24,7 @@ fn same_sizes(a: Sizes, b: Sizes) -> bool
     a.nz == b.nz
 }
 
-// The words of the visited cubes, an empty waiting list, and numbers in the slots of the vertices.
-fn prepare(
-    samples: &[i16],
-    sizes: Sizes,
-    start: usize,
-    words: &mut [u16],
-    waiting: &mut [u32],
-    slots: &mut [u32],
-) -> Counts
-    requires { ⌜ Full (lattice sizes (now samples)) × (start < cubes sizes) × Roomy sizes (work (now words) (now waiting) (now slots)) ⌝ }
-    ensures { λ r. ⌜ Prepared (lattice sizes (now (samples .entry))) start (work (now (words .entry)) (now (waiting .entry)) (now (slots .entry))) r (work (now (words .exit)) (now (waiting .exit)) (now (slots .exit))) ⌝ }
-{
-    let n = 7 * lattice::sample_count(sizes);
-    let _visits = flood::flood(samples, sizes, start, words, waiting);
-    flood::clear_list(waiting, lattice::cube_count(sizes));
-    flood::clear_list(slots, n);
-    let triangles = survey::mark_all(words, sizes, slots);
-    let vertices = survey::number_all(slots, n);
-    Counts {
-        vertices,
-        triangles,
-    }
-}
-
-// Tests 17 to 19 on prepared work slices.
+// Tests 17 to 19 on the work slices of a measured sheet, with an empty waiting list.
 fn compare(
     samples: &[i16],
     sizes: Sizes,
@@ -100,17 +71,6 @@ fn compare(
     }
 }
 
-// The needed front of each work slice becomes 0.
-fn clear(sizes: Sizes, words: &mut [u16], waiting: &mut [u32], slots: &mut [u32])
-    requires { ⌜ Sized sizes × Roomy sizes (work (now words) (now waiting) (now slots)) ⌝ }
-    ensures { λ _. ⌜ work (now (words .exit)) (now (waiting .exit)) (now (slots .exit)) ≡ clean sizes (work (now (words .entry)) (now (waiting .entry)) (now (slots .entry))) ⌝ }
-{
-    let n = lattice::cube_count(sizes);
-    flood::clear_words(words, n);
-    flood::clear_list(waiting, n);
-    flood::clear_list(slots, 7 * lattice::sample_count(sizes));
-}
-
 // Tests 17 to 19 on work slices that are then cleared.
 fn last_tests(
     samples: &[i16],
@@ -124,9 +84,11 @@ fn last_tests(
     requires { ⌜ Full (lattice sizes (now samples)) × (start < cubes sizes) × LaidOut (now bytes) × Roomy sizes (work (now words) (now waiting) (now slots)) ⌝ }
     ensures { λ r. ⌜ (r ≡ judge (lastTests (lattice sizes (now (samples .entry))) start (now (bytes .entry)))) × (work (now (words .exit)) (now (waiting .exit)) (now (slots .exit)) ≡ clean sizes (work (now (words .entry)) (now (waiting .entry)) (now (slots .entry)))) ⌝ }
 {
-    let counts = prepare(samples, sizes, start, words, waiting, slots);
+    let counts = measure::measure(samples, sizes, start, words, waiting, slots);
+    let n = lattice::cube_count(sizes);
+    flood::clear_list(waiting, n);
     let v = compare(samples, sizes, bytes, counts, words, waiting, slots);
-    clear(sizes, words, waiting, slots);
+    measure::clear_work(sizes, words, waiting, slots);
     v
 }
 

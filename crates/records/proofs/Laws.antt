@@ -11,7 +11,7 @@ use lib.Dec.{T, eqb, ltb}
 use lib.ListN.{length, getD, set, length-set}
 use lib.Seq.{getD-set-same, getD-set-other}
 use borrow.Author.Tests.{eq-eqb, ne-eqb, lt-ltb, le-ltb, ltb-true}
-use Rattle.lists.specs.Lists.{range, isIn, first}
+use Rattle.lists.specs.Lists.{range, isIn}
 use Rattle.lists.proofs.Member.{T→eq, eq→T, and-left, and-right}
 use Rattle.lists.proofs.Runs.{along-snoc, first-at, first-none}
 use Rattle.paper.specs.Lattice.{Lattice}
@@ -19,7 +19,8 @@ use Rattle.paper.specs.Sheet.{vertexRecord}
 use Rattle.paper.specs.Build.{neededSlots}
 use Rattle.paper.specs.Check.{sameNumbers, recordOf}
 use Rattle.survey.specs.Marks.{used}
-use Rattle.records.specs.Records.{Crossing, edgeAt, goodRecord, goodEdge, emptied, edgesTo, slotsAfter, badIn, firstBadIn}
+use Rattle.measure.specs.Crossed.{AllCross}
+use Rattle.records.specs.Records.{edgeAt, goodRecord, goodEdge, emptied, edgesTo, slotsAfter, badIn, firstBadIn}
 
 -- ── one record ──
 
@@ -127,7 +128,7 @@ module _ (L : Lattice) (vs : List ℤ) (slots : List ℕ) where
   unfolding slotsAfter
   after-length i = emptied-length (edgesTo L vs i) slots
 
-  pub after-crossing : (i : ℕ) → neededSlots (L .size) ≤ length slots → Crossing L slots → Crossing L (slotsAfter L vs slots i)
+  pub after-crossing : (i : ℕ) → neededSlots (L .size) ≤ length slots → AllCross L slots → AllCross L (slotsAfter L vs slots i)
   unfolding slotsAfter
   after-crossing i h c = record {
     at = λ e l t.

@@ -1,26 +1,21 @@
 -- A file's vertex records against the slots of the sheet's vertices. Assumes nothing.
 use mathlib.Core.Bool.{Bool, cond, not, _&&_}
 use mathlib.Core.List.{List, [], _∷_, map}
-use Prim.Native.Nat.{ℕ, _/_, _%_, _<_}
+use Prim.Native.Nat.{ℕ}
 use lib.IntN.{ℤ, pos, negsuc}
-use lib.Dec.{T, ltb}
+use lib.Dec.{ltb}
 use lib.ListN.{set}
 use Rattle.lists.specs.Lists.{range, first}
-use Rattle.paper.specs.Lattice.{Lattice, sampleAt}
+use Rattle.paper.specs.Lattice.{Lattice}
 use Rattle.paper.specs.Sheet.{vertexRecord}
 use Rattle.paper.specs.Build.{neededSlots}
 use Rattle.paper.specs.Check.{sameNumbers, recordOf, edgeOf}
-use Rattle.crossing.specs.Vertex.{Crosses}
 use Rattle.survey.specs.Marks.{used}
 
 -- a record's edge, or n where it is none of n
 abbrev pub edgeIn : ℤ → ℕ → ℕ
 edgeIn (pos m) n = cond (ltb m n) m n
 edgeIn (negsuc m) n = n
-
--- every used slot is that of a side-changing edge
-pub record Crossing (L : Lattice) (slots : List ℕ) : Type 0 where
-  pub at : (e : ℕ) → e < neededSlots (L .size) → T (used slots e) → Crosses L (sampleAt (L .size) (e / 7)) (e % 7)
 
 -- the edge of record i, where it is one of the lattice's
 unfoldable pub edgeAt : Lattice → List ℤ → ℕ → ℕ

@@ -12,7 +12,8 @@ ghost use Rattle.paper.specs.File.{fileV, fileVertices};
 ghost use Rattle.paper.specs.Check.{sameNumber, sameNumbers, recordOf};
 ghost use Rattle.crossing.specs.Vertex.{numbers};
 ghost use Rattle.layout.specs.Laid.{Ranged};
-ghost use Rattle.records.specs.Records.{edgeIn, Crossing, goodEdge, firstBadIn, slotsAfter};
+ghost use Rattle.measure.specs.Crossed.{AllCross};
+ghost use Rattle.records.specs.Records.{edgeIn, goodEdge, firstBadIn, slotsAfter};
 
 fn same(a: i32, b: i32) -> bool
     ensures { λ r. ⌜ r ≡ sameNumber a b ⌝ }
@@ -66,7 +67,7 @@ fn same_record(bytes: &[u8], i: usize, v: Vertex) -> bool
 // The edge of record i, where its slot is used and the record is its vertex's; else 7 × samples.
 fn good_edge(samples: &[i16], sizes: Sizes, bytes: &[u8], slots: &[u32], i: usize) -> usize
     requires { ⌜ Full (lattice sizes (now samples)) × Ranged (now bytes) × (i < fileV (now bytes)) ⌝ }
-    requires { ⌜ Crossing (lattice sizes (now samples)) (now slots) × (neededSlots sizes ≤ length (now slots)) ⌝ }
+    requires { ⌜ AllCross (lattice sizes (now samples)) (now slots) × (neededSlots sizes ≤ length (now slots)) ⌝ }
     ensures { λ r. ⌜ r ≡ goodEdge (lattice sizes (now (samples .entry))) (fileVertices (now (bytes .entry))) (now (slots .entry)) i ⌝ }
 {
     let n = 7 * lattice::sample_count(sizes);
@@ -89,7 +90,7 @@ fn good_edge(samples: &[i16], sizes: Sizes, bytes: &[u8], slots: &[u32], i: usiz
 // The first record that is not that of a vertex, or whose edge an earlier record has, or V; the slots of the edges before it become 0.
 pub fn first_bad(samples: &[i16], sizes: Sizes, bytes: &[u8], slots: &mut [u32]) -> usize
     requires { ⌜ Full (lattice sizes (now samples)) × Ranged (now bytes) ⌝ }
-    requires { ⌜ Crossing (lattice sizes (now samples)) (now slots) × (neededSlots sizes ≤ length (now slots)) ⌝ }
+    requires { ⌜ AllCross (lattice sizes (now samples)) (now slots) × (neededSlots sizes ≤ length (now slots)) ⌝ }
     ensures { λ r. ⌜ (r ≡ firstBadIn (lattice sizes (now (samples .entry))) (fileVertices (now (bytes .entry))) (now (slots .entry)) (fileV (now (bytes .entry)))) × (now (slots .exit) ≡ slotsAfter (lattice sizes (now (samples .entry))) (fileVertices (now (bytes .entry))) (now (slots .entry)) r) ⌝ }
 {
     let n = 7 * lattice::sample_count(sizes);

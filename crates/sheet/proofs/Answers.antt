@@ -1,8 +1,8 @@
 -- The answer of a build and what it leaves, refusal by refusal. Assumes nothing.
-use mathlib.Core.Path.{_≡_, refl, sym, ap, subst, _∙_}
+use mathlib.Core.Path.{_≡_, refl, sym, ap, _∙_}
 use mathlib.Core.Bool.{Bool, true, false, cond}
-use mathlib.Core.List.{List, [], _∷_, _++_}
-use Prim.Native.Nat.{ℕ, zero, suc, _*_, _/_, _≤_, _<_}
+use mathlib.Core.List.{List, [], _∷_}
+use Prim.Native.Nat.{ℕ, zero, suc, _≤_}
 use native.Mathlib.Omega.{arith}
 use lib.Dec.{eqb, leb}
 use lib.IntN.{ℤ}
@@ -12,15 +12,15 @@ use Rattle.lists.specs.Lists.{over, cleared, isIn}
 use Rattle.paper.specs.declared.Sizes.{Sizes}
 use Rattle.paper.specs.declared.Start.{Start}
 use Rattle.paper.specs.declared.Built.{Built}
-use Rattle.paper.specs.Lattice.{Lattice, axes, samples, cubes, visited}
+use Rattle.paper.specs.Lattice.{Lattice, axes, samples, cubes}
 use Rattle.paper.specs.Sheet.{Sheet, sheetOf, vertexWords, triangleWords}
 use Rattle.paper.specs.Tests.{Test, test, judge}
 use Rattle.paper.specs.Build.{Lent, lent, vertexRoom, triangleRoom, needed, neededSlots, roomy, named, startOf, starts, sampleTests, roomTests, buildNumber, counted, uncounted, built, workAfter, outputAfter, lentAfter, Builds}
 use Rattle.paper.proofs.Judged.{Numbered, judge-all, judge-past, judge-stop}
-use Rattle.flood.specs.Flooded.{wordsOf}
-use Rattle.sheet.specs.declared.Counts.{Counts}
-use Rattle.sheet.specs.Measured.{slotsOf, countsOf, roomTestsBy, Measured}
-use Rattle.sheet.proofs.Measuring.{clear-front, clear-beyond, words-length, slots-length}
+use Rattle.measure.specs.declared.Counts.{Counts}
+use Rattle.measure.specs.Measured.{countsOf, Measured}
+use Rattle.measure.proofs.Measuring.{undone}
+use Rattle.sheet.specs.Rooms.{roomTestsBy}
 
 -- ── numbers 1 to 5 ──
 
@@ -129,16 +129,6 @@ module _ (L : Lattice) (s : Start) (l : Lent) where
       pub triangles-are : c .triangles ≡ length (S .triangles)
       triangles-are = ap (λ (c : Counts). c .triangles) counts-are
 
-      words-clear : words′ ≡ cleared (needed z) (l .words)
-      words-clear = cw ∙ clear-front (needed z) (wordsOf L (visited L k)) (l .words) words (words-length L (visited L k)) (m .marked)
-
-      waiting-clear : waiting′ ≡ cleared (needed z) (l .waiting)
-      waiting-clear = cq ∙ clear-beyond (needed z) (l .waiting) waiting (m .beyond)
-
-      slots-clear : slots′ ≡ cleared (neededSlots z) (l .slots)
-      slots-clear =
-          cs ∙ clear-front (neededSlots z) (slotsOf z (sheetOf L k .edges)) (l .slots) slots (slots-length z (sheetOf L k .edges)) (m .numbered)
-
       -- the tests of room, by the counts: their number, its answer and what is left
       pub settled : (n : ℕ) → n ≡ judge (roomTestsBy c (vertexRoom (l .vertices)) (triangleRoom (l .triangles))) .number → (vs : List ℤ) (ts : List ℕ)
           → vs ≡ outputAfter n (vertexWords L (sheetOf L k)) (l .vertices) → ts ≡ outputAfter n (triangleWords (sheetOf L k)) (l .triangles)
@@ -152,13 +142,17 @@ module _ (L : Lattice) (s : Start) (l : Lent) where
           let w₀ : isIn (0 ∷ 6 ∷ 7 ∷ []) n ≡ true = ap (isIn (0 ∷ 6 ∷ 7 ∷ [])) e′ ∙ w .0 in
           let w₁ : isIn (0 ∷ 6 ∷ 7 ∷ 17 ∷ 18 ∷ 19 ∷ []) n ≡ true = ap (isIn (0 ∷ 6 ∷ 7 ∷ 17 ∷ 18 ∷ 19 ∷ [])) e′ ∙ w .1 in
           let fv = ev ∙ ap (λ (k : ℕ). outputAfter n (vertexWords L (sheetOf L k)) (l .vertices)) is in
+          let u = undone L k (l .words) (l .waiting) (l .slots) words waiting slots c m in
+          let dw = cw ∙ u .0 in
+          let dq = cq ∙ u .1 in
+          let ds = cs ∙ u .2 in
           let ft = et ∙ ap (λ (k : ℕ). outputAfter n (triangleWords (sheetOf L k)) (l .triangles)) is in
           record {
             answer =
                 (λ i. let d = counts-are i in record { number = n; vertices = d .vertices; triangles = d .triangles; cubes = d .cubes })
                 ∙ sym (answer-at n b ∙ ap (λ (b : Bool). cond b (counted n S) (uncounted n)) w₀);
             left =
-                (λ i. lent (fv i) (ft i) (words-clear i) (waiting-clear i) (slots-clear i))
+                (λ i. lent (fv i) (ft i) (dw i) (dq i) (ds i))
                 ∙ sym (left-at n b
                 ∙ (λ i.
                 lent (outputAfter n (vertexWords L S) (l .vertices)) (outputAfter n (triangleWords S) (l .triangles))

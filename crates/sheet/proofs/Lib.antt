@@ -1,6 +1,3 @@
--- Laws of the sheet that the passes leave.
-pub mod Words
-pub mod Slots
+-- Laws of the sheet that a build writes.
 pub mod Output
-pub mod Measuring
 pub mod Answers

@@ -1,12 +1,11 @@
 -- Records one behind the other, anchor by anchor. Assumes nothing.
 use mathlib.Core.Path.{_≡_, refl, sym, ap, subst, _∙_}
-use mathlib.Core.Bool.{Bool, true, false, cond, not}
-use mathlib.Core.List.{List, [], _∷_, _++_, append-nil, append-assoc}
-use Prim.Native.Nat.{ℕ, zero, suc, _+_, _-_, _*_, _/_, _%_, _≤_, _<_}
+use mathlib.Core.Bool.{Bool, not}
+use mathlib.Core.List.{List, [], _∷_, _++_, append-nil}
+use Prim.Native.Nat.{ℕ, zero, suc, _+_, _*_, _/_, _%_, _≤_, _<_}
 use native.Mathlib.Omega.{arith}
 use native.Mathlib.Nat.{zero-add, add-zero}
-use native.Mathlib.Numerals.{add-one}
-use lib.Dec.{T, eqb}
+use lib.Dec.{T}
 use lib.IntN.{ℤ}
 use lib.ListN.{length, getD, drop, length-append}
 use Rattle.lists.proofs.Member.{eq→T}
@@ -25,7 +24,8 @@ use Rattle.paper.proofs.Numbers.{sample-place, sample-inside, sample-back}
 use Rattle.crossing.specs.Vertex.{Crosses}
 use Rattle.survey.specs.Marks.{used}
 use Rattle.survey.proofs.Stores.{sets-join}
-use Rattle.vertices.specs.Records.{usedFrom, recordsFrom, AnchorCrosses, AllCross}
+use Rattle.measure.specs.Crossed.{AllCross}
+use Rattle.vertices.specs.Records.{usedFrom, recordsFrom, AnchorCrosses}
 
 -- ── runs ──
 

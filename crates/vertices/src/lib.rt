@@ -9,7 +9,8 @@ ghost use Rattle.lists.specs.Lists.{over};
 ghost use Rattle.paper.specs.Lattice.{lattice, sampleNo};
 ghost use Rattle.paper.specs.Within.{Full, SampleIn};
 ghost use Rattle.paper.specs.Build.{neededSlots};
-ghost use Rattle.vertices.specs.Records.{usedFrom, recordsFrom, AnchorCrosses, AllCross};
+ghost use Rattle.measure.specs.Crossed.{AllCross};
+ghost use Rattle.vertices.specs.Records.{usedFrom, recordsFrom, AnchorCrosses};
 
 // The vertex on the edge of a kind at the anchor p, where its slot is used, is written at place `at`; the next place is returned.
 fn put_kind(

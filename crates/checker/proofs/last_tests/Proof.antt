@@ -1,14 +1,15 @@
--- The sheet is made known, the file compared with it, and the work slices cleared. Assumes nothing.
-use mathlib.Core.Path.{_∙_}
+-- The sheet is measured, the file compared with it, and the work slices cleared. Assumes nothing.
+use mathlib.Core.Path.{_≡_, ap, _∙_}
+use mathlib.Core.List.{List}
+use Prim.Native.Nat.{ℕ}
 use native.Mathlib.Omega.{arith}
 use denote.Ref.{now}
+use Rattle.lists.specs.Lists.{cleared}
 use Rattle.paper.specs.Lattice.{Lattice, lattice}
-use Rattle.paper.specs.Build.{needed, neededSlots}
+use Rattle.paper.specs.Build.{needed}
 use Rattle.paper.specs.Check.{Work, work}
-use Rattle.checker.proofs.Answers.{cleared-again}
-use Rattle.checker.proofs.Known.{words-are, crossing, small, long, words-rest, waiting-rest, slots-rest}
-use Rattle.checker.proofs.Spots.{sure}
-use Rattle.checker.proofs.Verdicts.{same-answer}
+use Rattle.checker.specs.Checked.{Roomy}
+use Rattle.checker.proofs.Verdicts.{comparable, same-answer, cleaned}
 use borrow.Author.Needs.{needs}
 use Rattle.checker.proofs.last_tests.Statement.{statement}
 use Rattle.checker.proofs.last_tests.Tie as tie
@@ -19,31 +20,54 @@ L s = lattice (s .args .sizes) (now (s .args .samples))
 abbrev w : tie.Start → Work
 w s = work (now (s .args .words)) (now (s .args .waiting)) (now (s .args .slots))
 
-prepare-requires : tie.Need-prepare-requires
-prepare-requires c κs = search needs
+-- the sheet is measured and the waiting list empty
+module _ (c : tie.After-clear-list) where
+  abbrev s : tie.Start
+  s = c .before .before .before .before .before .before .before .before .before .before .before .before .before .before .before .before .before
+
+  abbrev words : List ℕ
+  words = c .before .before .before .before .before .before .before .before .before .measure .last .1 .1 .1 .0
+
+  abbrev waiting : List ℕ
+  waiting = c .before .before .before .before .before .before .before .before .before .measure .last .1 .1 .1 .1 .0
+
+  abbrev slots : List ℕ
+  slots = c .before .before .before .before .before .before .before .before .before .measure .last .1 .1 .1 .1 .1 .0
+
+  blank : c .clear-list .last .0 ≡ cleared (needed (s .args .sizes)) waiting
+  blank = c .clear-list .ensures ∙ ap (λ (n : ℕ). cleared n waiting) (c .before .before .cube-count .ensures .0)
+
+  room : Roomy (s .args .sizes) (work words (c .clear-list .last .0) slots)
+  room =
+      let kept = c .before .before .before .before .before .before .before .before .before .measure .kept in
+      record {
+        words = omega (arith, s .pre .3 .words, kept);
+        waiting = omega (arith, s .pre .3 .waiting, kept, c .clear-list .kept);
+        slots = omega (arith, s .pre .3 .slots, kept);
+      }
+
+measure-requires : tie.Need-measure-requires
+measure-requires c κs = search needs
+
+cube-count-requires : tie.Need-cube-count-requires
+cube-count-requires c κs = search needs
+
+clear-list-requires : tie.Need-clear-list-requires
+clear-list-requires c κs = search needs
 
 compare-requires : tie.Need-compare-requires
 compare-requires c κs =
-    let s = c .before .before .before .before .before .before .before .before .before .before .before .before .before .before .before .before .before in
-    let z = s .pre .0 .sized in
-    let p = c .before .before .before .before .before .before .before .before .before .prepare .ensures in (
-      record {
-        full = s .pre .0;
-        laid = s .pre .2;
-        crossing = crossing (L s) (s .args .start) z (s .pre .1) (w s) (s .pre .3) (c .before .before .before .before .before .before .before .before .before .prepare .result) _ p;
-        small = small (L s) (s .args .start) z (s .pre .1) (w s) (s .pre .3) (c .before .before .before .before .before .before .before .before .before .prepare .result) _ p;
-        sure = sure (L s) z (s .args .start) (s .pre .1) _ (words-are (L s) (s .args .start) z (s .pre .1) (w s) (s .pre .3) (c .before .before .before .before .before .before .before .before .before .prepare .result) _ p);
-      },
-      long (L s) (s .args .start) z (s .pre .1) (w s) (s .pre .3) (c .before .before .before .before .before .before .before .before .before .prepare .result) _ p,
-    )
+    let a = c .before .before .before .before .before in
+    let s = c .before .before .before .before .before .before .before .before .before .before .before .before .before .before .before .before .before .before .before .before .before .before in
+    let m = c .before .before .before .before .before .before .before .before .before .before .before .before .before .before .measure in
+    (comparable (L s) (s .pre .0 .sized) (s .args .start) (s .pre .1) (w s) (words a) (waiting a) (slots a) (m .result) (m .ensures) _ (blank a) (s .pre .0) _ (s .pre .2), room a)
 
-clear-requires : tie.Need-clear-requires
-clear-requires c κs =
-    let s = c .before .before .before .before .before .before .before .before .before .before .before .before .before .before .before .before .before .before .before .before .before .before .before .before .before in
-    let z = s .pre .0 .sized in
-    let r = long (L s) (s .args .start) z (s .pre .1) (w s) (s .pre .3) (c .before .before .before .before .before .before .before .before .before .before .before .before .before .before .before .before .before .prepare .result) _ (c .before .before .before .before .before .before .before .before .before .before .before .before .before .before .before .before .before .prepare .ensures) in
+clear-work-requires : tie.Need-clear-work-requires
+clear-work-requires c κs =
+    let s = c .before .before .before .before .before .before .before .before .before .before .before .before .before .before .before .before .before .before .before .before .before .before .before .before .before .before .before .before .before .before in
+    let r = room (c .before .before .before .before .before .before .before .before .before .before .before .before .before) in
     let q = c .before .before .before .before .before .before .before .compare .ensures in
-    (z, record { words = r .words; waiting = omega (arith, r .waiting, q .waiting .same-length); slots = omega (arith, r .slots, q .slots .same-length) })
+    (s .pre .0 .sized, r .words, omega (arith, r .waiting, q .waiting .same-length), omega (arith, r .slots, q .slots .same-length))
 
 same-length : tie.Need-same-length
 same-length c = search needs
@@ -56,27 +80,24 @@ same-length-3 c = search needs
 
 returns : tie.Need-returns
 returns c =
-    let s = c .before .before .before .before .before .before .before .before .before .before .before .before .before .before .before .before .before .before .before .before .before .before .before .before .before .before .before .before .before .before .before .before in
-    let z = s .pre .0 .sized in
-    let n = s .args .sizes in
-    let p = c .before .before .before .before .before .before .before .before .before .before .before .before .before .before .before .before .before .before .before .before .before .before .before .before .prepare .ensures in
+    let a = c .before .before .before .before .before .before .before .before .before .before .before .before .before .before .before .before .before .before .before .before in
+    let s = c .before .before .before .before .before .before .before .before .before .before .before .before .before .before .before .before .before .before .before .before .before .before .before .before .before .before .before .before .before .before .before .before .before .before .before .before .before in
+    let m = c .before .before .before .before .before .before .before .before .before .before .before .before .before .before .before .before .before .before .before .before .before .before .before .before .before .before .before .before .before .measure in
     let q = c .before .before .before .before .before .before .before .before .before .before .before .before .before .before .compare .ensures in
-    let a = same-answer (L s) (s .args .start) z (s .pre .1) (w s) (s .pre .3) (c .before .before .before .before .before .before .before .before .before .before .before .before .before .before .before .before .before .before .before .before .before .before .before .before .prepare .result) _ p (now (s .args .bytes)) in
-    let x = words-rest (L s) (s .args .start) z (s .pre .1) (w s) (s .pre .3) (c .before .before .before .before .before .before .before .before .before .before .before .before .before .before .before .before .before .before .before .before .before .before .before .before .prepare .result) _ p in
-    let y = waiting-rest (L s) (s .args .start) z (s .pre .1) (w s) (s .pre .3) (c .before .before .before .before .before .before .before .before .before .before .before .before .before .before .before .before .before .before .before .before .before .before .before .before .prepare .result) _ p in
-    let v = slots-rest (L s) (s .args .start) z (s .pre .1) (w s) (s .pre .3) (c .before .before .before .before .before .before .before .before .before .before .before .before .before .before .before .before .before .before .before .before .before .before .before .before .prepare .result) _ p in (
-      q .answer ∙ a,
-      c .before .before .before .before .before .before .clear .ensures
-          ∙ (λ i. work (cleared-again (needed n) (now (s .args .words)) _ x i) (cleared-again (needed n) (now (s .args .waiting)) _ (q .waiting .rest ∙ y) i) (cleared-again (neededSlots n) (now (s .args .slots)) _ (q .slots .rest ∙ v) i)),
+    let k = c .before .before .before .before .before .before .clear-work .ensures in (
+      q .answer ∙ same-answer (L s) (s .pre .0 .sized) (s .args .start) (s .pre .1) (w s) (words a) (waiting a) (slots a) (m .result) (m .ensures) _ (blank a) (room a) (now (s .args .bytes)),
+      (λ i. work (k .0 i) (k .1 i) (k .2 i)) ∙ cleaned (L s) (s .pre .0 .sized) (s .args .start) (s .pre .1) (w s) (words a) (waiting a) (slots a) (m .result) (m .ensures) _ (blank a) _ _ (q .waiting) (q .slots),
     )
 
 pub last-tests-spec : {M : Type 1} → statement M
 last-tests-spec =
     tie.close
     (tie.spec
-    prepare-requires
+    measure-requires
+    cube-count-requires
+    clear-list-requires
     compare-requires
-    clear-requires
+    clear-work-requires
     same-length
     same-length-2
     same-length-3

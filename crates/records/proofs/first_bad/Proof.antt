@@ -11,7 +11,8 @@ use borrow.Author.Count.{below-more}
 use Rattle.paper.specs.Lattice.{Lattice, lattice}
 use Rattle.paper.specs.Build.{neededSlots}
 use Rattle.paper.specs.File.{fileV, fileVertices}
-use Rattle.records.specs.Records.{Crossing, goodEdge, slotsAfter, badIn}
+use Rattle.measure.specs.Crossed.{AllCross}
+use Rattle.records.specs.Records.{goodEdge, slotsAfter, badIn}
 use Rattle.records.proofs.Laws.{Found, record-bad, record-good, after-none, after-more, after-length, after-crossing, bad-here, good-here, first-found, first-missing}
 use Rattle.records.proofs.first_bad.Statement.{statement}
 use Rattle.records.proofs.first_bad.Tie as tie
@@ -67,7 +68,7 @@ loop-holds c = (omega arith, after-none _ _ _, λ k h. absurd (omega arith))
 good-edge-requires : tie.Need-good-edge-requires Inv-loop μ-loop
 good-edge-requires c κs =
     let s = c .before .before .before .before .before .before .before in
-    let v = c .before .before .before .vertex-count .ensures .0 in ((s .pre .0 .0, s .pre .0 .1, omega (arith, v, c .before .loop-test .taken)), (subst (Crossing (L s)) (sym (c .before .before .loop .inv .1)) (after-crossing (L s) (vs s) (now (s .args .slots)) (c .before .before .loop .i) (s .pre .1 .1) (s .pre .1 .0)), omega (arith, long (c .before .before), s .pre .1 .1)))
+    let v = c .before .before .before .vertex-count .ensures .0 in ((s .pre .0 .0, s .pre .0 .1, omega (arith, v, c .before .loop-test .taken)), (subst (AllCross (L s)) (sym (c .before .before .loop .inv .1)) (after-crossing (L s) (vs s) (now (s .args .slots)) (c .before .before .loop .i) (s .pre .1 .1) (s .pre .1 .0)), omega (arith, long (c .before .before), s .pre .1 .1)))
 
 same-length : tie.Need-same-length Inv-loop μ-loop
 same-length c = long (c .before .before .before .before)

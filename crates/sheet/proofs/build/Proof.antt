@@ -2,18 +2,19 @@
 use borrow.Author.Needs.{needs}
 use mathlib.Core.Path.{_≡_, sym, ap, _∙_}
 use mathlib.Core.List.{List}
-use Prim.Native.Nat.{ℕ, _*_, _/_, _≤_, _<_}
+use Prim.Native.Nat.{ℕ, _/_}
 use native.Mathlib.Omega.{arith}
 use lib.IntN.{ℤ}
 use lib.ListN.{length}
-use Rattle.sheet.specs.declared.Counts.{Counts}
 use denote.Ref.{now}
 use Rattle.paper.specs.Lattice.{Lattice, lattice}
 use Rattle.paper.specs.Tests.{judge}
 use Rattle.paper.specs.Build.{Lent, lent, sampleTests, outputAfter}
 use Rattle.ready.specs.Ready.{Begins}
-use Rattle.sheet.proofs.Measuring.{triangles-counted, triangles-listed}
-use Rattle.sheet.proofs.Output.{used-edges, records-are, all-cross, words-are}
+use Rattle.measure.specs.declared.Counts.{Counts}
+use Rattle.measure.proofs.Measuring.{triangles-counted, triangles-listed}
+use Rattle.measure.proofs.Crossed.{all-cross}
+use Rattle.sheet.proofs.Output.{used-edges, records-are, words-are}
 use Rattle.sheet.proofs.Answers.{room-fits, refused, settled}
 use Rattle.sheet.proofs.build.Statement.{statement}
 use Rattle.sheet.proofs.build.Tie as tie

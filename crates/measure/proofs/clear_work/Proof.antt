@@ -1,11 +1,11 @@
 -- Slice by slice. Assumes nothing.
 use borrow.Author.Needs.{needs}
-use mathlib.Core.Path.{_≡_, ap, _∙_}
+use mathlib.Core.Path.{ap, _∙_}
 use Prim.Native.Nat.{ℕ, _*_}
 use denote.Ref.{now}
 use Rattle.lists.specs.Lists.{cleared}
-use Rattle.sheet.proofs.clear_work.Statement.{statement}
-use Rattle.sheet.proofs.clear_work.Tie as tie
+use Rattle.measure.proofs.clear_work.Statement.{statement}
+use Rattle.measure.proofs.clear_work.Tie as tie
 
 cube-count-requires : tie.Need-cube-count-requires
 cube-count-requires c κs = search needs

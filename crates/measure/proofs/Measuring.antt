@@ -1,11 +1,11 @@
 -- A flood, marks and numbers leave the sheet measured. Assumes nothing.
 use mathlib.Core.Path.{_≡_, refl, sym, ap, subst, _∙_}
-use mathlib.Core.Bool.{Bool, cond}
+use mathlib.Core.Bool.{cond}
 use mathlib.Core.List.{List, _++_, map}
-use Prim.Native.Nat.{ℕ, _+_, _*_, _≤_, _<_}
+use Prim.Native.Nat.{ℕ, _+_, _≤_, _<_}
 use native.Mathlib.Omega.{arith}
 use lib.Dec.{T}
-use lib.ListN.{length, drop, replicate, length-replicate, length-map}
+use lib.ListN.{length, drop, replicate, length-map}
 use lib.Seq.{drop-at}
 use Rattle.lists.specs.Lists.{range, keep, each, isIn, rank, over, cleared}
 use Rattle.lists.proofs.Every.{All, in-all, all-in}
@@ -17,11 +17,12 @@ use Rattle.paper.specs.Sheet.{cubeEdges, vertexEdges, cubeTriangles, numbered, 
 use Rattle.paper.specs.Build.{needed, neededSlots}
 use Rattle.paper.specs.Within.{Sized}
 use Rattle.paper.proofs.Listing.{edges-exactly, edges-lt, visits-lt}
-use Rattle.flood.specs.Flooded.{wordOf, wordsOf, Beyond}
+use Rattle.flood.specs.Flooded.{wordsOf, Beyond}
 use Rattle.survey.specs.Marks.{marks, usedOf, edgesUpto, trianglesUpto, numberIn}
-use Rattle.sheet.specs.Measured.{slotsOf}
-use Rattle.sheet.proofs.Words.{all-triangles, all-edges}
-use Rattle.sheet.proofs.Slots.{used-is, numbers-are}
+use Rattle.measure.specs.declared.Counts.{Counts}
+use Rattle.measure.specs.Measured.{slotsOf, Measured}
+use Rattle.measure.proofs.Words.{words-length, all-triangles, all-edges}
+use Rattle.measure.proofs.Slots.{used-is, numbers-are}
 
 module _ (L : Lattice) (s : Sized (L .size)) (start : ℕ) (words w₀ : List ℕ) (e : words ≡ over (wordsOf L (visited L start)) w₀) where
   abbrev z : Sizes
@@ -75,17 +76,28 @@ module _ (L : Lattice) (s : Sized (L .size)) (start : ℕ) (words w₀ : List �
 
 -- ── clearing undoes all of it ──
 
-pub clear-front : (n : ℕ) (front l m : List ℕ) → length front ≡ n → m ≡ over front l → cleared n m ≡ cleared n l
-clear-front n front l m h e =
-    ap (λ (r : List ℕ). replicate n 0 ++ r) (ap (drop n) e ∙ (drop-at front (drop (length front) l) n h ∙ ap (λ (k : ℕ). drop k l) h))
-
 pub clear-beyond : (n : ℕ) (l m : List ℕ) → Beyond n l m → cleared n m ≡ cleared n l
 clear-beyond n l m b = ap (λ (r : List ℕ). replicate n 0 ++ r) (b .rest)
 
-pub words-length : (L : Lattice) (vs : List ℕ) → length (wordsOf L vs) ≡ needed (L .size)
-unfolding wordsOf
-words-length L vs = length-along (λ k. cond (isIn vs k) (wordOf L k) 0) 0 (cubes (L .size))
+clear-front : (n : ℕ) (front l m : List ℕ) → length front ≡ n → m ≡ over front l → cleared n m ≡ cleared n l
+clear-front n front l m h e =
+    ap (λ (r : List ℕ). replicate n 0 ++ r) (ap (drop n) e ∙ (drop-at front (drop (length front) l) n h ∙ ap (λ (k : ℕ). drop k l) h))
 
 pub slots-length : (z : Sizes) (es : List ℕ) → length (slotsOf z es) ≡ neededSlots z
 unfolding slotsOf
 slots-length z es = length-along (λ e. cond (isIn es e) (rank es e + 1) 0) 0 (neededSlots z)
+
+-- whatever measuring wrote, a clear leaves what it would have left before
+pub undone : (L : Lattice) (start : ℕ) (words waiting slots words′ waiting′ slots′ : List ℕ) (r : Counts)
+    → Measured L start words waiting slots words′ waiting′ slots′ r
+    → (cleared (needed (L .size)) words′ ≡ cleared (needed (L .size)) words)
+    × (cleared (needed (L .size)) waiting′ ≡ cleared (needed (L .size)) waiting)
+    × (cleared (neededSlots (L .size)) slots′ ≡ cleared (neededSlots (L .size)) slots)
+undone L start words waiting slots words′ waiting′ slots′ r m =
+    let z = L .size in
+    let vs = visited L start in
+    let es = sheetOf L start .edges in (
+      clear-front (needed z) (wordsOf L vs) words words′ (words-length L vs) (m .marked),
+      clear-beyond (needed z) waiting waiting′ (m .beyond),
+      clear-front (neededSlots z) (slotsOf z es) slots slots′ (slots-length z es) (m .numbered),
+    )

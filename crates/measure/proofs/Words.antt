@@ -1,20 +1,19 @@
 -- The words of the visited cubes give the sheet's triangles and the edges that have a vertex. Assumes nothing.
 use mathlib.Core.Path.{_≡_, refl, sym, ap, subst, _∙_}
-use mathlib.Core.Bool.{Bool, true, false, cond, not, _&&_}
-use mathlib.Core.List.{List, [], _∷_, _++_, map}
-use Prim.Native.Nat.{ℕ, _+_, _*_, _%_, _≤_, _<_}
+use mathlib.Core.Bool.{Bool, true, false, cond, _&&_}
+use mathlib.Core.List.{List, []}
+use Prim.Native.Nat.{ℕ, _+_, _%_, _<_}
 use native.Mathlib.Omega.{arith}
 use lib.Dec.{T, eqb}
 use lib.ListN.{length, getD, drop, List·getD-append}
 use borrow.Author.Tests.{eq-eqb, ne-eqb}
 use Rattle.lists.specs.Lists.{range, keep, any, each, isIn, over}
 use Rattle.lists.proofs.Member.{and-left, and-right, and-both, any-each, any-in, in-any, in-range, range-in}
-use Rattle.lists.proofs.Every.{All, all-keep, in-all, each-same, map-same-in, each-keep}
+use Rattle.lists.proofs.Every.{all-keep, in-all, each-same, map-same-in, each-keep}
 use Rattle.lists.proofs.Closure.{bool-same, reached-kept}
 use Rattle.lists.proofs.Runs.{length-along, at-along}
 use Rattle.paper.specs.declared.Sizes.{Sizes}
-use Rattle.paper.specs.Lattice.{Lattice, sampleNo, cubes, cubeAt, steps, visited}
-use Rattle.paper.specs.Tables.{Tri}
+use Rattle.paper.specs.Lattice.{Lattice, cubes, cubeAt, steps, visited}
 use Rattle.paper.specs.Sheet.{cubeEdges, cubeTriangles}
 use Rattle.paper.proofs.Visits.{visited-lt}
 use Rattle.sides.specs.Pattern.{patternAt}
@@ -32,6 +31,10 @@ edges-from z base m =
     (all-keep (λ j. base + getD (localSteps z) j 0 ≡ base + localStep z j) (localSplit m) (range 0 19)
     (in-all (λ j. T (localSplit m j) → base + getD (localSteps z) j 0 ≡ base + localStep z j) (range 0 19) (λ j t _. ap (λ (n : ℕ). base + n) (at-along (localStep z) 0 19 j (omega (arith, range-in 0 19 j t))))))
 
+pub words-length : (L : Lattice) (vs : List ℕ) → length (wordsOf L vs) ≡ cubes (L .size)
+unfolding wordsOf
+words-length L vs = length-along (λ k. cond (isIn vs k) (wordOf L k) 0) 0 (cubes (L .size))
+
 module _ (L : Lattice) (start : ℕ) (words w₀ : List ℕ) (e : words ≡ over (wordsOf L (visited L start)) w₀) where
   abbrev z : Sizes
   z = L .size
@@ -39,12 +42,11 @@ module _ (L : Lattice) (start : ℕ) (words w₀ : List ℕ) (e : words ≡ over
   abbrev vs : List ℕ
   vs = visited L start
 
-  word-at : (k : ℕ) → k < cubes z → getD words k 0 ≡ cond (isIn vs k) (wordOf L k) 0
+  pub word-at : (k : ℕ) → k < cubes z → getD words k 0 ≡ cond (isIn vs k) (wordOf L k) 0
   unfolding wordsOf
   word-at k h =
-      let g = length-along (λ k. cond (isIn vs k) (wordOf L k) 0) 0 (cubes z) in
       ap (λ (l : List ℕ). getD l k 0) e
-      ∙ (List·getD-append (wordsOf L vs) (drop (length (wordsOf L vs)) w₀) 0 k (omega arith) ∙ at-along (λ k. cond (isIn vs k) (wordOf L k) 0) 0 (cubes z) k h)
+      ∙ (List·getD-append (wordsOf L vs) (drop (length (wordsOf L vs)) w₀) 0 k (omega (arith, words-length L vs)) ∙ at-along (λ k. cond (isIn vs k) (wordOf L k) 0) 0 (cubes z) k h)
 
   -- a visited cube's word holds its pattern, another's is 0
   visited-word : (k : ℕ) → k < cubes z → isIn vs k ≡ true → (getD words k 0 ≡ 0 → ⊥) × (getD words k 0 % 256 ≡ patternAt L (cubeAt z k))

@@ -1,13 +1,13 @@
 -- The passes one after the other. Assumes nothing.
 use borrow.Author.Needs.{needs}
-use mathlib.Core.Path.{_≡_, refl, sym, ap, _∙_}
+use mathlib.Core.Path.{ap, _∙_}
 use Prim.Native.Nat.{ℕ, _*_}
 use denote.Ref.{now}
-use Rattle.paper.specs.Lattice.{Lattice, lattice}
-use Rattle.sheet.specs.declared.Counts.{Counts}
-use Rattle.sheet.proofs.Measuring.{slots-numbered, vertices-counted, triangles-counted, visits-counted}
-use Rattle.sheet.proofs.measure.Statement.{statement}
-use Rattle.sheet.proofs.measure.Tie as tie
+use Rattle.paper.specs.Lattice.{lattice}
+use Rattle.measure.specs.declared.Counts.{Counts}
+use Rattle.measure.proofs.Measuring.{slots-numbered, vertices-counted, triangles-counted, visits-counted}
+use Rattle.measure.proofs.measure.Statement.{statement}
+use Rattle.measure.proofs.measure.Tie as tie
 
 abbrev counts : ℕ → ℕ → ℕ → Counts
 counts v t k = record { vertices = v; triangles = t; cubes = k }

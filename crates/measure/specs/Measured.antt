@@ -1,18 +1,16 @@
 -- What is known once the sheet is measured and its vertices are numbered. Assumes nothing.
 use mathlib.Core.Path.{_≡_}
 use mathlib.Core.Bool.{cond}
-use mathlib.Core.List.{List, [], _∷_, map}
+use mathlib.Core.List.{List, map}
 use Prim.Native.Nat.{ℕ, _+_}
-use lib.Dec.{leb}
 use lib.ListN.{length}
 use Rattle.lists.specs.Lists.{range, isIn, rank, over}
 use Rattle.paper.specs.declared.Sizes.{Sizes}
 use Rattle.paper.specs.Lattice.{Lattice, cubes, visited}
 use Rattle.paper.specs.Sheet.{Sheet, sheetOf}
-use Rattle.paper.specs.Tests.{Test, test}
 use Rattle.paper.specs.Build.{neededSlots}
 use Rattle.flood.specs.Flooded.{wordsOf, Beyond}
-use Rattle.sheet.specs.declared.Counts.{Counts}
+use Rattle.measure.specs.declared.Counts.{Counts}
 
 -- the slots: one more than the vertex number at each edge that has a vertex, 0 at the others
 unfoldable pub slotsOf : Sizes → List ℕ → List ℕ
@@ -20,10 +18,6 @@ slotsOf z es = map (λ e. cond (isIn es e) (rank es e + 1) 0) (range 0 (neededSl
 
 abbrev pub countsOf : Sheet → Counts
 countsOf S = record { vertices = length (S .edges); triangles = length (S .triangles); cubes = S .visits }
-
--- tests 6 and 7, by counts
-abbrev pub roomTestsBy : Counts → ℕ → ℕ → List Test
-roomTestsBy c vertices triangles = test 6 (leb (c .vertices) vertices) ∷ test 7 (leb (c .triangles) triangles) ∷ []
 
 -- words, waiting and slots are the slices before, words′, waiting′ and slots′ those after, r what is returned
 pub record Measured (L : Lattice) (start : ℕ) (words waiting slots words′ waiting′ slots′ : List ℕ) (r : Counts) : Type 0 where
