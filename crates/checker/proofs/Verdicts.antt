@@ -23,7 +23,7 @@ use Rattle.paper.specs.Check.{Work, work, sameSizes, badRecord, badNaming, comp
 use Rattle.paper.proofs.Judged.{Numbered, numbered-both, judge-past, judge-stop}
 use Rattle.layout.proofs.Passing.{file-numbered}
 use Rattle.records.specs.Records.{firstBadIn as firstBadRecord}
-use Rattle.records.proofs.Firsts.{first-before}
+use Rattle.lists.proofs.Firsts.{first-before}
 use Rattle.records.proofs.Meaning.{first-bad-is as bad-record-is}
 use Rattle.triples.specs.Triples.{firstBadIn as firstBadTriple}
 use Rattle.triples.proofs.Meaning.{first-bad-is as bad-triple-is}

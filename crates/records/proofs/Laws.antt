@@ -11,7 +11,7 @@ use lib.Dec.{T, eqb, ltb}
 use lib.ListN.{length, getD, set, length-set}
 use lib.Seq.{getD-set-same, getD-set-other}
 use borrow.Author.Tests.{eq-eqb, ne-eqb, lt-ltb, le-ltb, ltb-true}
-use Rattle.lists.specs.Lists.{range, isIn, first}
+use Rattle.lists.specs.Lists.{range, isIn}
 use Rattle.lists.proofs.Member.{T→eq, eq→T, and-left, and-right}
 use Rattle.lists.proofs.Runs.{along-snoc, first-at, first-none}
 use Rattle.paper.specs.Lattice.{Lattice}

@@ -1,16 +1,15 @@
 -- Records one behind the other, anchor by anchor. Assumes nothing.
 use mathlib.Core.Path.{_≡_, refl, sym, ap, subst, _∙_}
-use mathlib.Core.Bool.{Bool, true, false, cond, not}
-use mathlib.Core.List.{List, [], _∷_, _++_, append-nil, append-assoc}
-use Prim.Native.Nat.{ℕ, zero, suc, _+_, _-_, _*_, _/_, _%_, _≤_, _<_}
+use mathlib.Core.Bool.{Bool, not}
+use mathlib.Core.List.{List, [], _∷_, _++_, append-nil}
+use Prim.Native.Nat.{ℕ, zero, suc, _+_, _*_, _/_, _%_, _≤_, _<_}
 use native.Mathlib.Omega.{arith}
 use native.Mathlib.Nat.{zero-add, add-zero}
-use native.Mathlib.Numerals.{add-one}
-use lib.Dec.{T, eqb}
+use lib.Dec.{T}
 use lib.IntN.{ℤ}
-use lib.ListN.{length, getD, drop, length-append}
+use lib.ListN.{length, getD, length-append}
 use Rattle.lists.proofs.Member.{eq→T}
-use lib.Seq.{sets, sets-eq, length-sets}
+use lib.Seq.{sets, length-sets}
 use borrow.Author.Tests.{eq-eqb, ne-eqb}
 use Rattle.lists.specs.Lists.{range, consIf, keep, each, over}
 use Rattle.lists.proofs.Every.{each-length}
@@ -24,7 +23,7 @@ use Rattle.paper.proofs.Listing.{record-length}
 use Rattle.paper.proofs.Numbers.{sample-place, sample-inside, sample-back}
 use Rattle.crossing.specs.Vertex.{Crosses}
 use Rattle.survey.specs.Marks.{used}
-use Rattle.survey.proofs.Stores.{sets-join}
+use Rattle.lists.proofs.Stores.{sets-join, sets-front}
 use Rattle.vertices.specs.Records.{usedFrom, recordsFrom, AnchorCrosses, AllCross}
 
 -- ── runs ──
@@ -79,8 +78,7 @@ pub written-front : (L : Lattice) (slots : List ℕ) (n : ℕ) (l : List ℤ) �
     → writtenTo L slots 0 n 0 l ≡ over (recordsFrom L slots 0 n) l
 unfolding writtenTo
 written-front L slots n l h =
-    let r = recordsFrom L slots 0 n in
-    sets-eq r l 0 (omega (arith, records-length L slots 0 n)) ∙ ap (λ (k : ℕ). r ++ drop k l) (zero-add (length r))
+    sets-front l (recordsFrom L slots 0 n) (omega (arith, records-length L slots 0 n))
 
 -- ── one slot ──
 
