@@ -34,7 +34,7 @@ use Rattle.codec.specs.Words.{Words}
 use Rattle.layout.proofs.Passing.{first-same}
 use Rattle.pairing.specs.Pairing.{count}
 use Rattle.pairing.proofs.Tests.{sample-tests}
-use Rattle.records.proofs.Meaning.{record-edge}
+use Rattle.paper.proofs.Records.{record-edge}
 use Rattle.sheetfile.specs.Taken.{Taken}
 use Rattle.sheetfile.specs.Trips.{Holds}
 use Rattle.sheetfile.proofs.Answers.{taken, taken-verdict}

@@ -1,7 +1,7 @@
 -- A check answers 0 exactly when sizes, start, work room and layout pass and the file holds the sheet. Assumes nothing.
 use mathlib.Core.Path.{_≡_, refl, sym, ap, subst, _∙_}
 use mathlib.Core.Bool.{Bool, true, false, not, _&&_, _||_}
-use mathlib.Core.List.{List, [], _∷_, _++_, map, List·Memᴰ as In}
+use mathlib.Core.List.{List, [], _∷_, _++_, map, List·Memᴰ as In, Memᴰ·map as in-map}
 use Prim.Native.Nat.{ℕ, _+_, _≤_, _<_}
 use native.Mathlib.Omega.{arith}
 use lib.IntN.{ℤ, pos, natAbs}
@@ -26,12 +26,11 @@ use Rattle.paper.specs.Check.{sameNumber, sameNumbers, sameSizes, turned, recor
 use Rattle.paper.proofs.Judged.{both, Numbered, Passed, numbered-both, passed-both, judge-all, passed-judge}
 use Rattle.layout.proofs.Passing.{file-numbered}
 use Rattle.pairing.specs.Pairing.{count}
-use Rattle.pairing.proofs.Count.{in-list, any-at, at-any, in-map, map-in, count-map, count-same}
+use Rattle.pairing.proofs.Count.{in-list, any-at, at-any, map-in, count-map, count-same}
 use Rattle.pairing.proofs.Turned.{is-turned, turned-is, back, along, same}
 use Rattle.pairing.proofs.Tests.{sample-tests}
-use Rattle.records.proofs.Firsts.{first-before}
-use Rattle.records.proofs.Numbers.{same-number, number-same, same-numbers}
-use Rattle.records.proofs.Meaning.{first-number, record-edge}
+use Rattle.lists.proofs.Firsts.{first-before}
+use Rattle.paper.proofs.Records.{same-number, number-same, same-numbers, first-number, record-edge}
 use Rattle.checker.proofs.Counting.{few, count-some}
 use Rattle.checker.proofs.Complete.{refuted, distinct-edges, below, earlier, one-alike}
 use Rattle.checker.proofs.Verdicts.{sample-numbered}

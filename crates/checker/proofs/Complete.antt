@@ -21,8 +21,7 @@ use Rattle.pairing.specs.Pairing.{count, Arrow, arrow, around, isArrow, times}
 use Rattle.pairing.proofs.Count.{list-in, in-list, any-at, at-any, count-each, count-unique, rising-unique, range-unique, sum, Unique}
 use Rattle.pairing.proofs.Sheets.{by-edge}
 use Rattle.pairing.proofs.Turned.{Turned, is-turned, turned-is, back, along, hit, hit-turned}
-use Rattle.records.proofs.Numbers.{same-number, number-same}
-use Rattle.records.proofs.Meaning.{record-edge}
+use Rattle.paper.proofs.Records.{same-number, number-same, record-edge}
 use Rattle.checker.proofs.Counting.{few, count-some, matched, count-le-sum}
 
 -- a test that is not failed

@@ -27,7 +27,7 @@ use Rattle.pairing.proofs.Turned.{is-turned, turned-is, back}
 use Rattle.tetra.specs.Cut.{rowBy, rowTriangles, trianglesBy}
 use Rattle.flood.specs.Flooded.{wordOf}
 use Rattle.survey.specs.Marks.{baseOf}
-use Rattle.records.proofs.Firsts.{first-holds}
+use Rattle.lists.proofs.Firsts.{first-holds}
 use Rattle.triples.specs.Triples.{holder, isAt, placeBy, placeIn, placeOf, Sure}
 use Rattle.triples.proofs.Laws.{place-word}
 use Rattle.triples.proofs.Meaning.{holder-is, at-row, placed, cube-is}

@@ -32,7 +32,7 @@ use Rattle.measure.proofs.Slots.{cleared-at, cleared-rest}
 use Rattle.measure.proofs.Measuring.{clear-beyond, undone}
 use Rattle.measure.proofs.Crossed.{slot-used, all-cross}
 use Rattle.records.specs.Records.{firstBadIn as firstBadRecord}
-use Rattle.records.proofs.Firsts.{first-before}
+use Rattle.lists.proofs.Firsts.{first-before}
 use Rattle.records.proofs.Meaning.{first-bad-is as bad-record-is}
 use Rattle.triples.specs.Triples.{firstBadIn as firstBadTriple}
 use Rattle.triples.proofs.Meaning.{first-bad-is as bad-triple-is}

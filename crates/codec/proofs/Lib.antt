@@ -1,5 +1,4 @@
 -- Laws of numbers as bytes, and of the lists that a loop over them makes.
-pub mod Ints
 pub mod Bytes
 pub mod Signed
 pub mod Runs

@@ -9,7 +9,7 @@ use mir.Val.{SFits}
 use borrow.Author.Tests.{eq-eqb, ne-eqb, lt-ltb, le-ltb}
 use Rattle.paper.specs.Sheet.{coordinate}
 use Rattle.crossing.specs.Vertex.{Near}
-use Rattle.crossing.proofs.Ints.{sub-pos, sub-neg}
+use Rattle.paper.proofs.Ints.{sub-pos, sub-neg}
 
 -- the coordinate as the machine adds it up
 unfoldable pub stepped : ℕ → ℕ → ℕ → ℤ

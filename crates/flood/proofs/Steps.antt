@@ -4,10 +4,10 @@ use mathlib.Core.Bool.{Bool, true, false, cond, _&&_, and-false}
 use Prim.Native.Nat.{ℕ, _<_}
 use native.Mathlib.Omega.{arith}
 use Rattle.paper.specs.declared.Place.{Place}
-use Rattle.paper.specs.Lattice.{Lattice, cubes, cubeNo}
+use Rattle.paper.specs.Lattice.{Lattice, cubes, cubeNo, faceAt}
 use Rattle.paper.specs.Within.{CubeIn}
 use Rattle.paper.proofs.Numbers.{cube-place}
-use Rattle.sides.specs.Pattern.{patternAt, mixedBy, neighbours, faceAt, stepTo}
+use Rattle.sides.specs.Pattern.{patternAt, mixedBy, neighbours, stepTo}
 use Rattle.sides.proofs.Laws.{step-at}
 use Rattle.flood.specs.Flow.{Flow, push}
 use Rattle.flood.specs.Flooded.{wordOf}

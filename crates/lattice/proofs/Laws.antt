@@ -5,10 +5,10 @@ use native.Mathlib.Nat.{mul-le-mul, mul-add, mul-assoc}
 use native.Mathlib.Omega.{arith}
 use Rattle.paper.specs.declared.Sizes.{Sizes}
 use Rattle.paper.specs.declared.Place.{Place}
-use Rattle.paper.specs.Lattice.{place, samples, sampleNo, sampleAt, cubes, cubeNo, cubeAt, corner}
+use Rattle.paper.specs.Lattice.{place, samples, sampleNo, cubes, corner}
 use Rattle.paper.specs.Within.{Sized, SampleIn, CubeIn}
-use Rattle.lattice.specs.Steps.{cornerStep}
-use Rattle.paper.proofs.Numbers.{sample-place, cube-place, sample-lt, corner-inside}
+use Rattle.lattice.specs.Steps.{nextIn, cornerStep}
+use Rattle.paper.proofs.Numbers.{digits-place, sample-lt, corner-inside}
 
 module _ (z : Sizes) (s : Sized z) where
   pub layer-few : z .ny * z .nz ≤ 4096
@@ -47,44 +47,25 @@ carry-z : (w h x y z : ℕ) → x + 1 ≡ w → y + 1 ≡ h → x + w * (y + h *
 carry-z w h x y z e f =
     carry-y w h x y z e ∙ ap (λ (q : ℕ). 0 + w * q) (ap (λ (q : ℕ). q + h * z) f ∙ omega (arith, mul-add h z 1))
 
-module _ (z : Sizes) (s : Sized z) (p : Place) where
-  module _ (i : SampleIn z p) where
-    pub sample-right : p .x + 1 < z .nx → place (p .x + 1) (p .y) (p .z) ≡ sampleAt z (sampleNo z p + 1)
-    unfolding sampleNo
-    sample-right h =
-        sym (sample-place z (place (p .x + 1) (p .y) (p .z)) h (i .y))
-        ∙ ap (sampleAt z) (omega arith)
+-- the place of the number after p's: in the row, in the next row, in the next layer
+module _ (w h : ℕ) (p : Place) (hx : p .x < w) (hy : p .y < h) where
+  pub next-x : p .x + 1 < w → place (p .x + 1) (p .y) (p .z) ≡ nextIn w h p
+  unfolding nextIn
+  next-x l =
+      sym (digits-place w h (place (p .x + 1) (p .y) (p .z)) l hy)
+      ∙ ap (λ (n : ℕ). place (n % w) (n / w % h) (n / (w * h))) (omega arith)
 
-    pub sample-up : (p .x + 1 < z .nx → ⊥) → p .y + 1 < z .ny → place 0 (p .y + 1) (p .z) ≡ sampleAt z (sampleNo z p + 1)
-    unfolding sampleNo
-    sample-up n h =
-        sym (sample-place z (place 0 (p .y + 1) (p .z)) (omega (arith, s .x-low)) h)
-        ∙ ap (sampleAt z) (sym (carry-y (z .nx) (z .ny) (p .x) (p .y) (p .z) (omega (arith, i .x))))
+  pub next-y : (p .x + 1 < w → ⊥) → p .y + 1 < h → place 0 (p .y + 1) (p .z) ≡ nextIn w h p
+  unfolding nextIn
+  next-y n l =
+      sym (digits-place w h (place 0 (p .y + 1) (p .z)) (omega arith) l)
+      ∙ ap (λ (n : ℕ). place (n % w) (n / w % h) (n / (w * h))) (sym (carry-y w h (p .x) (p .y) (p .z) (omega arith)))
 
-    pub sample-far : (p .x + 1 < z .nx → ⊥) → (p .y + 1 < z .ny → ⊥) → place 0 0 (p .z + 1) ≡ sampleAt z (sampleNo z p + 1)
-    unfolding sampleNo
-    sample-far n m =
-        sym (sample-place z (place 0 0 (p .z + 1)) (omega (arith, s .x-low)) (omega (arith, s .y-low)))
-        ∙ ap (sampleAt z) (sym (carry-z (z .nx) (z .ny) (p .x) (p .y) (p .z) (omega (arith, i .x)) (omega (arith, i .y))))
-
-  module _ (i : CubeIn z p) where
-    pub cube-right : p .x + 2 < z .nx → place (p .x + 1) (p .y) (p .z) ≡ cubeAt z (cubeNo z p + 1)
-    unfolding cubeNo
-    cube-right h =
-        sym (cube-place z (place (p .x + 1) (p .y) (p .z)) (omega arith) (omega (arith, i .y)))
-        ∙ ap (cubeAt z) (omega arith)
-
-    pub cube-up : (p .x + 2 < z .nx → ⊥) → p .y + 2 < z .ny → place 0 (p .y + 1) (p .z) ≡ cubeAt z (cubeNo z p + 1)
-    unfolding cubeNo
-    cube-up n h =
-        sym (cube-place z (place 0 (p .y + 1) (p .z)) (omega (arith, s .x-low)) (omega arith))
-        ∙ ap (cubeAt z) (sym (carry-y (z .nx - 1) (z .ny - 1) (p .x) (p .y) (p .z) (omega (arith, i .x))))
-
-    pub cube-far : (p .x + 2 < z .nx → ⊥) → (p .y + 2 < z .ny → ⊥) → place 0 0 (p .z + 1) ≡ cubeAt z (cubeNo z p + 1)
-    unfolding cubeNo
-    cube-far n m =
-        sym (cube-place z (place 0 0 (p .z + 1)) (omega (arith, s .x-low)) (omega (arith, s .y-low)))
-        ∙ ap (cubeAt z) (sym (carry-z (z .nx - 1) (z .ny - 1) (p .x) (p .y) (p .z) (omega (arith, i .x)) (omega (arith, i .y))))
+  pub next-z : (p .x + 1 < w → ⊥) → (p .y + 1 < h → ⊥) → place 0 0 (p .z + 1) ≡ nextIn w h p
+  unfolding nextIn
+  next-z n m =
+      sym (digits-place w h (place 0 0 (p .z + 1)) (omega arith) (omega arith))
+      ∙ ap (λ (n : ℕ). place (n % w) (n / w % h) (n / (w * h))) (sym (carry-z w h (p .x) (p .y) (p .z) (omega arith) (omega arith)))
 
 pub corner-no : (z : Sizes) (p : Place) (c : ℕ) → sampleNo z (corner p c) ≡ sampleNo z p + cornerStep z c
 unfolding sampleNo corner cornerStep

@@ -12,8 +12,8 @@ use lib.ListN.{length, getD}
 use Rattle.lists.specs.Lists.{range}
 use Rattle.lists.specs.Bytes.{field}
 use Rattle.paper.specs.File.{signed32, trailerAt, fileLength, badTriangle, firstBad, limits, trailer, fileV, fileT, fileVertices, fileTriangles, laidOut}
-use Rattle.lists.proofs.Runs.{first-at, first-none}
-use Rattle.codec.proofs.Runs.{getD-numbered, length-numbered, wordAt}
+use Rattle.lists.proofs.Runs.{first-at, first-none, length-along, at-along}
+use Rattle.codec.proofs.Runs.{wordAt}
 use Rattle.layout.specs.Laid.{anyFrom, Ranged}
 use Rattle.paper.proofs.Judged.{both}
 
@@ -28,19 +28,19 @@ triangles-are bs = refl
 
 pub vertices-length : (bs : List ℕ) → length (fileVertices bs) ≡ 4 * fileV bs
 unfolding fileVertices
-vertices-length bs = length-numbered _ (4 * fileV bs)
+vertices-length bs = length-along _ 0 (4 * fileV bs)
 
 pub triangles-length : (bs : List ℕ) → length (fileTriangles bs) ≡ 3 * fileT bs
 unfolding fileTriangles
-triangles-length bs = length-numbered _ (3 * fileT bs)
+triangles-length bs = length-along _ 0 (3 * fileT bs)
 
 pub vertex-at : (bs : List ℕ) (i : ℕ) → i < 4 * fileV bs → getD (fileVertices bs) i (pos 0) ≡ signed32 (field 4 bs (4 * i))
 unfolding fileVertices
-vertex-at bs i h = getD-numbered (λ i. signed32 (field 4 bs (4 * i))) (pos 0) (4 * fileV bs) i h
+vertex-at bs i h = at-along (λ i. signed32 (field 4 bs (4 * i))) (pos 0) (4 * fileV bs) i h
 
 pub triangle-at : (bs : List ℕ) (i : ℕ) → i < 3 * fileT bs → getD (fileTriangles bs) i 0 ≡ field 4 bs (16 * fileV bs + 4 * i)
 unfolding fileTriangles
-triangle-at bs i h = getD-numbered (λ i. field 4 bs (16 * fileV bs + 4 * i)) 0 (3 * fileT bs) i h
+triangle-at bs i h = at-along (λ i. field 4 bs (16 * fileV bs + 4 * i)) 0 (3 * fileT bs) i h
 
 pub bad-is : (nv : ℕ) (ts : List ℕ) (i : ℕ) → badTriangle nv ts i ≡ anyFrom nv (getD ts (3 * i) 0) (getD ts (3 * i + 1) 0) (getD ts (3 * i + 2) 0)
 unfolding badTriangle

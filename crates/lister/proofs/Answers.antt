@@ -14,7 +14,8 @@ use Rattle.paper.specs.declared.Built.{Built}
 use Rattle.paper.specs.declared.Start.the-variants.{Unnamed}
 use Rattle.paper.specs.Lattice.{lattice, samples}
 use Rattle.paper.specs.Build.{uncounted, built, lentAfter}
-use Rattle.codec.proofs.Runs.{sets-over, length-numbered}
+use Rattle.lists.proofs.Runs.{length-along}
+use Rattle.lists.proofs.Stores.{sets-front}
 use Rattle.lister.specs.Listing.{signed16, listedSizes, listedSamples, listedLattice, listingNumber, listingRoom, listed, listedAfter, Lists}
 
 -- the samples, read to the front of a list and taken from it
@@ -23,8 +24,8 @@ pub samples-are : (bs : List ℕ) (n : ℕ) (l : List ℤ) → n ≡ samples (li
 unfolding listedSamples
 samples-are bs n l e h =
     let f : ℕ → ℤ = λ i. signed16 (field 2 bs (6 + 2 * i)) in
-    let k = length-numbered f n in
-    ap (take n) (sets-over l (map f (range 0 n)) (omega (arith, k)))
+    let k = length-along f 0 n in
+    ap (take n) (sets-front l (map f (range 0 n)) (omega (arith, k)))
     ∙ (take-at (map f (range 0 n)) (drop (length (map f (range 0 n))) l) n k ∙ ap (λ (j : ℕ). map f (range 0 j)) e)
 
 pub list-refused : (bs : List ℕ) (vs : List ℤ) (ts : List ℕ) (n : ℕ) → n ≡ listingNumber bs → (n ≡ 0 → ⊥) → Lists bs vs ts (uncounted n) vs ts

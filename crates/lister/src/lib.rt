@@ -10,7 +10,7 @@ ghost use lib.Seq.{sets};
 ghost use Rattle.lists.specs.Lists.{range};
 ghost use Rattle.lists.specs.Bytes.{field};
 ghost use Rattle.paper.specs.Lattice.{lattice};
-ghost use Rattle.paper.specs.Build.{lent, built, lentAfter};
+ghost use Rattle.paper.specs.Build.{built, lentAfter};
 ghost use Rattle.paper.specs.declared.Start.the-variants.{Unnamed};
 ghost use Rattle.lister.specs.Listing.{signed16, listedSizes, listable, listingNumber, listingRoom, Lists};
 

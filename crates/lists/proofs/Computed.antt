@@ -24,7 +24,7 @@ upto-at (suc n) f t k h = go (λ l. upto-at n f (and-right (f n) (upto n f) t) k
 abbrev pub both : (Bool → Bool) → Bool
 both f = f true && f false
 
-both-at : (f : Bool → Bool) → T (both f) → (b : Bool) → T (f b)
+pub both-at : (f : Bool → Bool) → T (both f) → (b : Bool) → T (f b)
 both-at f t true = and-left (f true) (f false) t
 both-at f t false = and-right (f true) (f false) t
 

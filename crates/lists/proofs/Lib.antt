@@ -3,6 +3,7 @@ pub mod Member
 pub mod Every
 pub mod Rising
 pub mod Runs
+pub mod Firsts
 pub mod Closure
 pub mod Computed
 pub mod Stores

@@ -1,7 +1,7 @@
 -- What a loop over rising numbers makes: runs, those kept, the first, ranks. Assumes nothing.
 use mathlib.Core.Path.{_≡_, refl, sym, ap, _∙_}
 use mathlib.Core.Logic.{_⊎_, inl, inr}
-use mathlib.Core.Bool.{Bool, true, false, cond, _||_}
+use mathlib.Core.Bool.{Bool, true, false, cond, _||_, or-false}
 use mathlib.Core.List.{List, [], _∷_, _++_, map, append-assoc, map-append}
 use Prim.Native.Nat.{ℕ, zero, suc, _+_, _≤_, _<_}
 use native.Mathlib.Omega.{arith}
@@ -11,12 +11,15 @@ use lib.ListN.{length, getD}
 use lib.Arith.{lt-of-le-ne}
 use borrow.Author.Tests.{lt-ltb, le-ltb, eqb-true, eqb-false}
 use Rattle.lists.specs.Lists.{range, consIf, keep, any, each, isIn, first, rank}
-use Rattle.lists.proofs.Member.{or-cases}
+use Rattle.lists.proofs.Member.{or-cases, any-append}
 use Rattle.lists.proofs.Rising.{Rising, keep-rising}
 
-pub range-snoc : (i n : ℕ) → range i (suc n) ≡ range i n ++ ((i + n) ∷ [])
+range-snoc : (i n : ℕ) → range i (suc n) ≡ range i n ++ ((i + n) ∷ [])
 range-snoc i zero = ap (λ (k : ℕ). k ∷ []) (sym (add-zero i))
 range-snoc i (suc n) = ap (λ (l : List ℕ). i ∷ l) (range-snoc (suc i) n ∙ ap (λ (k : ℕ). range (suc i) n ++ k ∷ []) (omega arith))
+
+pub range-more : (n : ℕ) → range 0 (suc n) ≡ range 0 n ++ (n ∷ [])
+range-more n = range-snoc 0 n ∙ ap (λ (k : ℕ). range 0 n ++ k ∷ []) (zero-add n)
 
 module _ {A : Type 0} (p : A → Bool) where
   pub keep-append : (l m : List A) → keep p (l ++ m) ≡ keep p l ++ keep p m
@@ -29,8 +32,11 @@ module _ {A : Type 0} (p : A → Bool) where
 
 -- one number more
 pub keep-snoc : (p : ℕ → Bool) (n : ℕ) → keep p (range 0 (suc n)) ≡ keep p (range 0 n) ++ consIf (p n) n []
-keep-snoc p n =
-    ap (keep p) (range-snoc 0 n ∙ ap (λ (k : ℕ). range 0 n ++ k ∷ []) (zero-add n)) ∙ keep-append p (range 0 n) (n ∷ [])
+keep-snoc p n = ap (keep p) (range-more n) ∙ keep-append p (range 0 n) (n ∷ [])
+
+pub any-snoc : (p : ℕ → Bool) (n : ℕ) → any p (range 0 (suc n)) ≡ (any p (range 0 n) || p n)
+any-snoc p n =
+    ap (any p) (range-more n) ∙ (any-append p (range 0 n) (n ∷ []) ∙ ap (λ (b : Bool). any p (range 0 n) || b) (or-false (p n)))
 
 module _ {A B : Type 0} (f : A → List B) where
   pub each-append : (l m : List A) → each f (l ++ m) ≡ each f l ++ each f m
@@ -103,7 +109,7 @@ module _ {A : Type 0} (f : ℕ → A) where
   at-along d n j h = at-from d 0 n j h ∙ ap f (zero-add j)
 
   pub along-snoc : (n : ℕ) → map f (range 0 (suc n)) ≡ map f (range 0 n) ++ (f n ∷ [])
-  along-snoc n = ap (map f) (range-snoc 0 n ∙ ap (λ (k : ℕ). range 0 n ++ k ∷ []) (zero-add n)) ∙ map-append f (range 0 n) (n ∷ [])
+  along-snoc n = ap (map f) (range-more n) ∙ map-append f (range 0 n) (n ∷ [])
 
 -- in a rising list, a number's rank is its place
 pub rising-ge : (l : List ℕ) (b e : ℕ) → Rising b l → T (isIn l e) → b ≤ e

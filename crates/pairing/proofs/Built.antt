@@ -1,40 +1,19 @@
 -- Demand 3 of a built sheet, by vertex numbers. Assumes nothing.
-use mathlib.Core.Path.{_≡_, refl, sym, ap, _∙_, subst}
-use mathlib.Core.Bool.{Bool}
-use mathlib.Core.List.{List, [], _∷_, map, List·Memᴰ as In, List·Memᴰ·head as here, List·Memᴰ·tail as there}
-use Prim.Native.Nat.{ℕ, suc, _≤_, _<_}
-use native.Mathlib.Omega.{arith}
-use lib.Dec.{ltb}
+use mathlib.Core.Path.{_≡_, refl, sym, _∙_, subst}
+use mathlib.Core.List.{List, [], _∷_, map, List·Memᴰ as In, List·Memᴰ·head as here, List·Memᴰ·tail as there, map-map}
+use Prim.Native.Nat.{ℕ, _<_}
 use lib.ListN.{length, getD}
-use borrow.Author.Tests.{lt-ltb, le-ltb}
-use Rattle.lists.specs.Lists.{consIf, keep, rank}
-use Rattle.lists.proofs.Rising.{Rising, rank-lt}
+use Rattle.lists.proofs.Runs.{rank-place}
+use Rattle.lists.proofs.Rising.{rank-lt}
 use Rattle.paper.specs.Lattice.{Lattice, cubes}
 use Rattle.paper.specs.Within.{Sized}
 use Rattle.paper.specs.Tables.{Tri, tri}
 use Rattle.paper.specs.Sheet.{Sheet, numbered, sheetOf}
 use Rattle.pairing.specs.Pairing.{Paired, outer, Demand3}
-use Rattle.pairing.proofs.Count.{list-in, map-in, map-map, rising-unique}
+use Rattle.pairing.proofs.Count.{list-in, map-in, rising-unique}
 use Rattle.pairing.proofs.Names.{named, Below, by-number, times-below}
 use Rattle.pairing.proofs.Sheets.{by-edge}
 use Rattle.pairing.proofs.Vertices.{corners, edges-rise, one-vertex}
-
--- in a list that rises, the rank of a member is its place
-rank-none : (b : ℕ) (l : List ℕ) (e : ℕ) → Rising b l → e ≤ b → rank l e ≡ 0
-rank-none b [] e r h = refl
-rank-none b (x ∷ l) e r h =
-    ap (λ (c : Bool). length (consIf c x (keep (λ m. ltb m e) l))) (le-ltb x e (omega (arith, r .0))) ∙ rank-none (suc x) l e (r .1) (omega (arith, r .0))
-
-member-le : (b : ℕ) (l : List ℕ) {e : ℕ} → Rising b l → In e l → b ≤ e
-member-le b (x ∷ l) r (here q) = omega (arith, r .0)
-member-le b (x ∷ l) r (there i) = omega (arith, r .0, member-le (suc x) l (r .1) i)
-
-rank-place : (b : ℕ) (l : List ℕ) {e : ℕ} → Rising b l → In e l → getD l (rank l e) 0 ≡ e
-rank-place b (x ∷ l) {e} r (here q) =
-    ap (λ (n : ℕ). getD (x ∷ l) n 0) (ap (λ (c : Bool). length (consIf c x (keep (λ m. ltb m e) l))) (le-ltb x e (omega arith)) ∙ rank-none (suc x) l e (r .1) (omega arith)) ∙ sym q
-rank-place b (x ∷ l) {e} r (there i) =
-    ap (λ (n : ℕ). getD (x ∷ l) n 0) (ap (λ (c : Bool). length (consIf c x (keep (λ m. ltb m e) l))) (lt-ltb x e (omega (arith, member-le (suc x) l (r .1) i))))
-    ∙ rank-place (suc x) l (r .1) i
 
 back : {A : Type 0} (f : A → A) (l : List A) → ((a : A) → In a l → f a ≡ a) → map f l ≡ l
 back f [] h = refl
@@ -60,7 +39,7 @@ module _ (L : Lattice) (sized : Sized (L .size)) (start : ℕ) (inside : start <
       ∙ back (λ t. named (λ i. getD (S .edges) i 0) (numbered (S .edges) t)) (S .byEdge)
       (λ t i.
       let c = corners L sized start inside t i in
-      λ j. tri (rank-place 0 (S .edges) (edges-rise L sized start inside) (c .a) j) (rank-place 0 (S .edges) (edges-rise L sized start inside) (c .b) j) (rank-place 0 (S .edges) (edges-rise L sized start inside) (c .c) j))
+      λ j. tri (rank-place (S .edges) 0 0 (t .a) (edges-rise L sized start inside) (list-in (c .a)) j) (rank-place (S .edges) 0 0 (t .b) (edges-rise L sized start inside) (list-in (c .b)) j) (rank-place (S .edges) 0 0 (t .c) (edges-rise L sized start inside) (list-in (c .c)) j))
 
   pub demand : Demand3 L start (S .edges) (S .triangles)
   demand =

@@ -1,16 +1,17 @@
 -- Counting by a test, sums over lists, and what distinct members contribute. Assumes nothing.
 use mathlib.Core.Path.{_≡_, refl, sym, ap, _∙_, subst}
 use mathlib.Core.Bool.{Bool, true, false, cond, _&&_, and-assoc}
-use mathlib.Core.List.{List, [], _∷_, _++_, map, List·Memᴰ as In, List·Memᴰ·head as here, List·Memᴰ·tail as there, Memᴰ·cast, Memᴰ·append-left, Memᴰ·append-right, List·Memᴰ·append-cases}
+use mathlib.Core.List.{List, [], _∷_, _++_, map, List·Memᴰ as In, List·Memᴰ·head as here, List·Memᴰ·tail as there, Memᴰ·cast, Memᴰ·append-left, Memᴰ·append-right, List·Memᴰ·append-cases, Memᴰ·of-map, map-append}
 use mathlib.Core.Logic.{_⊎_, inl, inr}
-use Prim.Native.Nat.{ℕ, zero, suc, _+_, _≤_, _<_}
+use Prim.Native.Nat.{ℕ, zero, suc, _+_, _<_}
 use native.Mathlib.Omega.{arith}
 use lib.Dec.{T, eqb, eqb→eq, eqb-refl}
 use lib.ListN.{length, getD, length-append}
 use Rattle.lists.specs.Lists.{range, consIf, keep, any, all, each, isIn}
-use Rattle.lists.proofs.Member.{T→eq, eq→T, or-cases, or-left, or-right, and-both, and-left, and-right, range-in}
+use Rattle.lists.proofs.Member.{T→eq, eq→T, or-left, or-right, and-both, and-left, and-right, range-in}
+use Rattle.lists.proofs.Every.{All, any-with}
 use Rattle.lists.proofs.Rising.{Rising}
-use Rattle.lists.proofs.Runs.{keep-append, each-append}
+use Rattle.lists.proofs.Runs.{keep-append, each-append, rising-ge}
 use Rattle.pairing.specs.Pairing.{count, Arrow, isArrow}
 
 pub T→false : (b : Bool) → (T b → ⊥) → b ≡ false
@@ -43,10 +44,10 @@ module _ {A : Type 0} where
   all-in p {l = x ∷ l} t (here e) = subst (λ (k : A). T (p k)) (sym e) (and-left (p x) (all p l) t)
   all-in p {l = x ∷ l} t (there i) = all-in p (and-right (p x) (all p l) t) i
 
-  pub all-getD : (p : A → Bool) (l : List A) (i : ℕ) (d : A) → T (all p l) → T (p d) → T (p (getD l i d))
-  all-getD p [] i d t h = h
-  all-getD p (x ∷ l) zero d t h = and-left (p x) (all p l) t
-  all-getD p (x ∷ l) (suc i) d t h = all-getD p l i d (and-right (p x) (all p l) t) h
+  -- what holds of each member
+  pub members : {P : A → Type 0} (l : List A) → ((a : A) → In a l → P a) → All P l
+  members [] h = tt
+  members (x ∷ l) h = (h x (here refl), members l (λ a i. h a (there i)))
 
   -- counts
   length-consIf : (b : Bool) (x : A) (l : List A) → length (consIf b x l) ≡ cond b (suc (length l)) (length l)
@@ -154,12 +155,7 @@ module _ {A : Type 0} where
   any-at p {l = x ∷ l} (there i) t = or-right (p x) (any p l) (any-at p i t)
 
   pub at-any : (p : A → Bool) (l : List A) → T (any p l) → (a : A) × In a l × T (p a)
-  at-any p [] t = absurd t
-  at-any p (x ∷ l) t =
-      elim (or-cases (p x) (any p l) t) [
-        | inl a ↦ (x, here refl, a)
-        | inr r ↦ (let m : (a : A) × In a l × T (p a) = at-any p l r in (m .0, there (m .1), m .2))
-      ]
+  at-any p l t = any-with (λ a. In a l) p l (members l (λ a i. i)) t
 
 pub list-in : {k : ℕ} {l : List ℕ} → In k l → T (isIn l k)
 list-in {k} i = any-at (eqb k) i (eqb-refl k)
@@ -179,10 +175,6 @@ module _ {A B : Type 0} where
   pub in-each : (f : A → List B) {l : List A} {a : A} {b : B} → In a l → In b (f a) → In b (each f l)
   in-each f {l = x ∷ l} {b = b} (here e) j = Memᴰ·append-left (each f l) (subst (λ k. In b (f k)) e j)
   in-each f {l = x ∷ l} (there i) j = Memᴰ·append-right (f x) (in-each f i j)
-
-  pub each-map : {C : Type 0} (f : B → List C) (g : A → B) (l : List A) → each f (map g l) ≡ each (λ a. f (g a)) l
-  each-map f g [] = refl
-  each-map f g (x ∷ l) = ap (λ m. f (g x) ++ m) (each-map f g l)
 
   pub count-each : (p : B → Bool) (f : A → List B) (l : List A) → count p (each f l) ≡ sum (λ a. count p (f a)) l
   count-each p f [] = refl
@@ -204,18 +196,8 @@ module _ {A B : Type 0} where
       (and-both (all p (f x)) (all p (each f l)) (and-left (all p (f x)) (all (λ a. all p (f a)) l) t)
       (all-each p f l (and-right (all p (f x)) (all (λ a. all p (f a)) l) t)))
 
-  pub map-append : (f : A → B) (l m : List A) → map f (l ++ m) ≡ map f l ++ map f m
-  map-append f [] m = refl
-  map-append f (x ∷ l) m = ap (λ k. f x ∷ k) (map-append f l m)
-
-  pub in-map : (f : A → B) {l : List A} {a : A} → In a l → In (f a) (map f l)
-  in-map f (here e) = here (ap f e)
-  in-map f (there i) = there (in-map f i)
-
   pub map-in : (f : A → B) (l : List A) (b : B) → In b (map f l) → (a : A) × In a l × (b ≡ f a)
-  map-in f [] b i = elim i [ ]
-  map-in f (x ∷ l) b (here e) = (x, here refl, e)
-  map-in f (x ∷ l) b (there i) = let r : (a : A) × In a l × (b ≡ f a) = map-in f l b i in (r .0, there (r .1), r .2)
+  map-in f l b i = let r = Memᴰ·of-map f l i in (r .0, r .1, sym (r .2))
 
   pub map-unique : (f : A → B) {l : List A} → ((a b : A) → In a l → In b l → f a ≡ f b → a ≡ b) → Unique l → Unique (map f l)
   map-unique f j none = none
@@ -226,10 +208,6 @@ module _ {A B : Type 0} where
       back r = Memᴰ·cast (j x (r .0) (here refl) (there (r .1)) (r .2)) (r .1)
 
 module _ {A B C : Type 0} where
-  pub map-map : (f : B → C) (g : A → B) (l : List A) → map f (map g l) ≡ map (λ a. f (g a)) l
-  map-map f g [] = refl
-  map-map f g (x ∷ l) = ap (λ r. f (g x) ∷ r) (map-map f g l)
-
   pub map-each : (f : B → C) (g : A → List B) (l : List A) → map f (each g l) ≡ each (λ a. map f (g a)) l
   map-each f g [] = refl
   map-each f g (x ∷ l) = map-append f (g x) (each g l) ∙ ap (λ m. map f (g x) ++ m) (map-each f g l)
@@ -241,11 +219,7 @@ module _ {A B C : Type 0} where
 -- numbers that rise, and what is counted of numbers without a repeat
 pub rising-unique : (b : ℕ) (l : List ℕ) → Rising b l → Unique l
 rising-unique b [] r = none
-rising-unique b (x ∷ l) r = more (λ (i : In x l). omega (arith, bound (suc x) l x (r .1) i)) (rising-unique (suc x) l (r .1))
-  where
-    bound : (b : ℕ) (l : List ℕ) (k : ℕ) → Rising b l → In k l → b ≤ k
-    bound b (x ∷ l) k r (here e) = omega (arith, r .0)
-    bound b (x ∷ l) k r (there i) = omega (arith, r .0, bound (suc x) l k (r .1) i)
+rising-unique b (x ∷ l) r = more (λ (i : In x l). omega (arith, rising-ge l (suc x) x (r .1) (list-in i))) (rising-unique (suc x) l (r .1))
 
 pub range-unique : (i n : ℕ) → Unique (range i n)
 range-unique i zero = none

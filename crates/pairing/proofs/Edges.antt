@@ -1,18 +1,19 @@
 -- Lattice edges by a cube and a code: their numbers, what tells them apart, and where their ends stand. Assumes nothing.
 use mathlib.Core.Path.{_≡_, refl, sym, ap, _∙_}
-use mathlib.Core.Bool.{Bool, true, false, cond}
+use mathlib.Core.Bool.{Bool}
 use mathlib.Core.List.{List, [], _∷_, _++_, map}
-use Prim.Native.Nat.{ℕ, zero, suc, _+_, _-_, _*_, _/_, _%_, _≤_, _<_, min}
+use Prim.Native.Nat.{ℕ, _+_, _-_, _*_, _/_, _%_, _<_, min}
 use native.Mathlib.Omega.{arith}
 use lib.ListN.{getD}
-use Rattle.lists.specs.Lists.{range, each, first}
+use Rattle.lists.specs.Lists.{each, first}
 use Rattle.paper.specs.declared.Sizes.{Sizes}
 use Rattle.paper.specs.declared.Place.{Place}
 use Rattle.paper.specs.Lattice.{place, corner, sampleNo, sampleAt}
 use Rattle.paper.specs.Within.{SampleIn}
-use Rattle.paper.specs.Tables.{Ends, Tet, Tri, ends, tri, tets, rows, tetEdges, kinds, low, joins, kindOf}
+use Rattle.paper.specs.Tables.{Ends, Tet, Tri, ends, tri, tets, rows, tetEdges, low, kindOf}
 use Rattle.paper.specs.Sheet.{edgeNo, tetEdge, triEdges, rowOf}
 use Rattle.paper.proofs.Numbers.{sample-place}
+use Rattle.paper.proofs.Tables.{kind-lt}
 use Rattle.pairing.specs.Pairing.{around}
 use Rattle.pairing.specs.Visitable.{trianglesAt}
 use Rattle.pairing.proofs.Count.{map-each}
@@ -24,18 +25,6 @@ unfoldable pub number : Sizes → Place → ℕ → ℕ
 number z p u = 7 * sampleNo z (corner p (u / 8)) + u % 8
 
 -- ── a cube's triangles by codes ──
-
-first-lt : (p : ℕ → Bool) (d i n b : ℕ) → d < b → i + n ≤ b → first p d (range i n) < b
-first-lt p d i zero b h k = h
-first-lt p d i (suc n) b h k = go (p i) (first-lt p d (suc i) n b h (omega arith))
-  where
-    go : (c : Bool) → first p d (range (suc i) n) < b → cond c i (first p d (range (suc i) n)) < b
-    go true r = omega arith
-    go false r = r
-
-pub kind-lt : (e : Ends) → kindOf e < 7
-unfolding kindOf
-kind-lt e = first-lt (λ k. joins e (low e) (getD kinds k (ends 0 0))) 0 0 7 7 (omega arith) (omega arith)
 
 pub edge-number : (z : Sizes) (p : Place) (e : Ends) → edgeNo z p e ≡ number z p (code e)
 unfolding edgeNo number code

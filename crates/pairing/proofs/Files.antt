@@ -1,74 +1,32 @@
 -- Demand 3 of a file that is accepted, by its own records and triangles. Assumes nothing.
 use mathlib.Core.Path.{_≡_, refl, sym, ap, _∙_, subst}
-use mathlib.Core.Bool.{Bool, true, false, cond, not, _||_}
-use mathlib.Core.List.{List, [], _∷_, map, List·Memᴰ as In, List·Memᴰ·head as here, List·Memᴰ·tail as there, Memᴰ·cast}
-use Prim.Native.Nat.{ℕ, zero, suc, _+_, _*_, _/_, _%_, _≤_, _<_}
+use mathlib.Core.Bool.{Bool, true, false, not, _||_}
+use mathlib.Core.List.{List, map, List·Memᴰ as In, Memᴰ·cast, Memᴰ·map as in-map, map-map}
+use Prim.Native.Nat.{ℕ, zero, suc, _+_, _*_, _≤_, _<_}
 use native.Mathlib.Omega.{arith}
 use native.Mathlib.Decide.{ℕ-discrete, decLt}
-use lib.IntN.{ℤ, pos, negsuc, natAbs}
-use lib.Dec.{T, eqb, leb, eqb→eq, eqb-refl, nleb→lt, T-not, not-T}
-use lib.ListN.{length, getD, drop, length-map}
-use lib.Seq.{getD-take, getD-drop}
+use lib.IntN.{ℤ, pos, natAbs}
+use lib.Dec.{T, eqb, leb, eqb→eq, nleb→lt, T-not, not-T}
+use lib.ListN.{length, getD}
 use Rattle.lists.specs.Lists.{range, any}
 use Rattle.lists.proofs.Member.{and-left, and-right, in-range, range-in}
-use Rattle.lists.proofs.Closure.{length-range}
+use Rattle.lists.proofs.Every.{map-same-in}
+use Rattle.lists.proofs.Runs.{length-along, at-along}
 use Rattle.paper.specs.declared.Start.{Start}
-use Rattle.paper.specs.declared.Place.{Place}
-use Rattle.paper.specs.Lattice.{Lattice, airAt, sampleAt, corner}
-use Rattle.paper.specs.Tables.{Tri, tri, ends, kinds}
-use Rattle.paper.specs.Sheet.{Sheet, sheetOf, vertexRecord, recordAt}
+use Rattle.paper.specs.Lattice.{Lattice}
+use Rattle.paper.specs.Tables.{Tri, tri}
+use Rattle.paper.specs.Sheet.{Sheet, sheetOf, vertexRecord}
 use Rattle.paper.specs.Build.{startOf}
 use Rattle.paper.specs.File.{fileV, fileT, fileVertices, fileTriangles, badTriangle}
 use Rattle.paper.specs.Check.{sameNumber, sameNumbers, turned, recordOf, edgeOf, badRecord, cornerOf, triangleOf, badNaming, complete}
+use Rattle.paper.proofs.Records.{same-number, number-same, record-edge}
 use Rattle.pairing.specs.Pairing.{outer, times, Paired, OneVertex, Demand3, fileEdges, fileCorner, fileCorners}
-use Rattle.pairing.proofs.Count.{list-in, in-list, any-at, at-any, pick, map-in, in-map, map-map, map-unique, range-unique, count-unique, Unique}
+use Rattle.pairing.proofs.Count.{members, list-in, in-list, any-at, at-any, pick, map-in, map-unique, range-unique, count-unique, Unique}
 use Rattle.pairing.proofs.Names.{named, Below, paired-same, by-number, times-below}
 use Rattle.pairing.proofs.Sheets.{by-edge}
 use Rattle.pairing.proofs.Vertices.{one-vertex}
 use Rattle.pairing.proofs.Turned.{Turned, is-turned, turned-is, same-times}
 use Rattle.pairing.proofs.Tests.{Accepted}
-
--- ── tests on records ──
-
-same-number : (x y : ℤ) → T (sameNumber x y) → x ≡ y
-same-number (pos m) (pos n) t = ap pos (eqb→eq m n t)
-same-number (pos m) (negsuc n) t = absurd t
-same-number (negsuc m) (pos n) t = absurd t
-same-number (negsuc m) (negsuc n) t = ap negsuc (eqb→eq m n t)
-
-number-same : (n : ℕ) {x : ℤ} → x ≡ pos n → T (sameNumber x (pos n))
-number-same n {x} e = subst (λ (k : ℤ). T (sameNumber k (pos n))) (sym e) (eqb-refl n)
-
-same-numbers : (l m : List ℤ) → T (sameNumbers l m) → l ≡ m
-same-numbers [] [] t = refl
-same-numbers [] (y ∷ ys) t = absurd t
-same-numbers (x ∷ xs) [] t = absurd t
-same-numbers (x ∷ xs) (y ∷ ys) t =
-    let e = same-number x y (and-left (sameNumber x y) (sameNumbers xs ys) t) in
-    let r = same-numbers xs ys (and-right (sameNumber x y) (sameNumbers xs ys) t) in
-    λ i. e i ∷ r i
-
--- a vertex record begins with its edge
-first-number : (L : Lattice) (e : ℕ) → getD (vertexRecord L e) 0 (pos 0) ≡ pos e
-unfolding vertexRecord recordAt
-first-number L e =
-    let anchor = sampleAt (L .size) (e / 7) in
-    let k = getD kinds (e % 7) (ends 0 0) in
-    go (airAt L (corner anchor (k .a))) (corner anchor (k .a)) (corner anchor (k .b))
-  where
-    go : (b : Bool) (u v : Place) → getD (cond b (recordAt L e v u) (recordAt L e u v)) 0 (pos 0) ≡ pos e
-    go true u v = refl
-    go false u v = refl
-
--- lists
-getD-range : (f : ℕ → ℕ) (i n k d : ℕ) → k < n → getD (map f (range i n)) k d ≡ f (i + k)
-getD-range f i zero k d h = absurd (omega arith)
-getD-range f i (suc n) zero d h = ap f (omega arith)
-getD-range f i (suc n) (suc k) d h = getD-range f (suc i) n k d (omega arith) ∙ ap f (omega arith)
-
-map-same : {A B : Type 0} (f g : A → B) (l : List A) → ((a : A) → In a l → f a ≡ g a) → map f l ≡ map g l
-map-same f g [] h = refl
-map-same f g (x ∷ l) h = λ i. h x (here refl) i ∷ map-same f g l (λ a j. h a (there j)) i
 
 -- a test that is refuted
 refuted : (a b : Bool) → (T (not a || b) → ⊥) → T a × (T b → ⊥)
@@ -109,17 +67,13 @@ module _ (L : Lattice) (s : Start) (bs : List ℕ) (acc : Accepted L s bs) where
     new : (j : ℕ) → j < i → edgeOf vs j ≡ edgeOf vs i → ⊥
 
   recorded : (i : ℕ) → i < fileV bs → Recorded i
-  unfolding badRecord recordOf edgeOf
+  unfolding badRecord
   recorded i h =
       let p = any (λ e. sameNumbers (recordOf vs i) (vertexRecord L e)) (S .edges) in
       let q = any (λ j. sameNumber (edgeOf vs j) (edgeOf vs i)) (range 0 i) in
       let r = refuted p q (acc .records i h) in
       let m = at-any (λ e. sameNumbers (recordOf vs i) (vertexRecord L e)) (S .edges) (r .0) in
-      let e : edgeOf vs i ≡ pos (m .0)
-      = ap (λ (n : ℕ). getD vs n (pos 0)) (omega arith)
-      ∙ sym (getD-take 4 (drop (4 * i) vs) 0 (pos 0) (omega arith) ∙ getD-drop (4 * i) vs 0 (pos 0))
-      ∙ ap (λ (l : List ℤ). getD l 0 (pos 0)) (same-numbers (recordOf vs i) (vertexRecord L (m .0)) (m .2))
-      ∙ first-number L (m .0) in
+      let e = record-edge L vs i (m .0) (m .2) in
       record {
         edge = m .0;
         vertex = m .1;
@@ -127,7 +81,7 @@ module _ (L : Lattice) (s : Start) (bs : List ℕ) (acc : Accepted L s bs) where
         new = λ j l f.
             r .1
             (any-at (λ j. sameNumber (edgeOf vs j) (edgeOf vs i)) (in-list j (range 0 i) (in-range 0 i j (omega arith) (omega arith)))
-            (subst (λ (x : ℤ). T (sameNumber (edgeOf vs j) x)) (sym e) (number-same (m .0) (f ∙ e))));
+            (subst (λ (x : ℤ). T (sameNumber (edgeOf vs j) x)) (sym e) (number-same (f ∙ e))));
       }
 
   abbrev nameOf : ℕ → ℕ
@@ -217,7 +171,7 @@ module _ (L : Lattice) (s : Start) (bs : List ℕ) (acc : Accepted L s bs) where
 
   edges-length : length (fileEdges bs) ≡ fileV bs
   unfolding fileEdges
-  edges-length = length-map (range 0 (fileV bs)) nameOf ∙ length-range 0 (fileV bs)
+  edges-length = length-along nameOf 0 (fileV bs)
 
   corner-lt : (i j : ℕ) → i < fileT bs → j < 3 → getD ts (3 * i + j) 0 < fileV bs
   unfolding badTriangle
@@ -245,20 +199,21 @@ module _ (L : Lattice) (s : Start) (bs : List ℕ) (acc : Accepted L s bs) where
 
   name-is : (n : ℕ) → n < fileV bs → getD (fileEdges bs) n 0 ≡ nameOf n
   unfolding fileEdges
-  name-is n h = getD-range nameOf 0 (fileV bs) n 0 h ∙ ap nameOf (omega arith)
+  name-is n h = at-along nameOf 0 (fileV bs) n h
 
   -- a triangle by records, named by their edges
   named-are : map (named (λ i. getD (fileEdges bs) i 0)) (fileCorners bs) ≡ map (triangleOf vs ts) (range 0 (fileT bs))
   unfolding fileCorners fileCorner named triangleOf cornerOf
   named-are =
       map-map (named (λ i. getD (fileEdges bs) i 0)) (fileCorner bs) (range 0 (fileT bs))
-      ∙ map-same (λ i. named (λ i. getD (fileEdges bs) i 0) (fileCorner bs i)) (triangleOf vs ts) (range 0 (fileT bs))
+      ∙ map-same-in (λ i. named (λ i. getD (fileEdges bs) i 0) (fileCorner bs i)) (triangleOf vs ts) (range 0 (fileT bs))
+      (members (range 0 (fileT bs))
       (λ i m.
       let h = below-t i m in
       let a = name-is (getD ts (3 * i) 0) (first-lt i h) in
       let b = name-is (getD ts (3 * i + 1) 0) (corner-lt i 1 h (omega arith)) in
       let c = name-is (getD ts (3 * i + 2) 0) (corner-lt i 2 h (omega arith)) in
-      λ j. tri (a j) (b j) (c j))
+      λ j. tri (a j) (b j) (c j)))
 
   pub demand : Demand3 L start (fileEdges bs) (fileCorners bs)
   demand = record {

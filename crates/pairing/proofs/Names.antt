@@ -6,10 +6,11 @@ use Prim.Native.Nat.{ℕ, zero, suc, _<_}
 use native.Mathlib.Omega.{arith}
 use lib.ListN.{length, getD}
 use Rattle.lists.specs.Lists.{each}
+use Rattle.lists.proofs.Every.{each-map}
 use Rattle.lists.proofs.Closure.{bool-same}
 use Rattle.paper.specs.Tables.{Tri, tri}
 use Rattle.pairing.specs.Pairing.{count, Arrow, arrow, around, isArrow, times, Paired}
-use Rattle.pairing.proofs.Count.{each-map, map-each, is-arrow, arrow-is, pick, count-map, count-same, each-in, nth-in, Unique, none, more}
+use Rattle.pairing.proofs.Count.{map-each, is-arrow, arrow-is, pick, count-map, count-same, each-in, nth-in, Unique, none, more}
 
 unfoldable pub named : (ℕ → ℕ) → Tri → Tri
 named f t = tri (f (t .a)) (f (t .b)) (f (t .c))

@@ -1,7 +1,7 @@
 -- Where the ends of two known edges stand: in an unshared face, or in an outer face, just where their reverse is missing. Assumes nothing.
 use mathlib.Core.Path.{_≡_, refl, sym, ap, _∙_, subst}
 use mathlib.Core.Bool.{Bool, true, false, not, cond, _&&_, _||_, or-false, and-true}
-use mathlib.Core.List.{List, [], _∷_, _++_, map, List·Memᴰ as In, List·Memᴰ·head as here, List·Memᴰ·tail as there}
+use mathlib.Core.List.{List, [], _∷_, _++_, map, List·Memᴰ as In, List·Memᴰ·head as here, List·Memᴰ·tail as there, Memᴰ·map as in-map, map-append}
 use mathlib.Core.Logic.{inl, inr}
 use Prim.Native.Nat.{ℕ, _+_, _-_, _/_, _%_, _<_, min}
 use native.Mathlib.Omega.{arith}
@@ -19,7 +19,7 @@ use Rattle.paper.specs.Tables.{ends, kinds}
 use Rattle.paper.proofs.Visits.{in-lattice, lattice-in}
 use Rattle.pairing.specs.Pairing.{edgeEnds, inOuterFace, outer}
 use Rattle.pairing.specs.Visitable.{meet, shared, inUnshared, unshared}
-use Rattle.pairing.proofs.Count.{T→false, eqb-of, at-any, all-in, all-map, in-map, map-append}
+use Rattle.pairing.proofs.Count.{T→false, eqb-of, at-any, all-in, all-map}
 use Rattle.pairing.proofs.Table.{span, flat, flatX, flatY, flatZ}
 use Rattle.pairing.proofs.Edges.{number, Edge, kind-of, anchor-of}
 use Rattle.pairing.proofs.Sides.{Known}

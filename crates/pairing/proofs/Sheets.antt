@@ -1,11 +1,12 @@
 -- Demand 3 of a sheet's triangles by lattice edges: of any cubes that may be visited, and of those of a lattice. Assumes nothing.
 use mathlib.Core.Path.{_≡_, sym, ap, _∙_, subst}
 use mathlib.Core.Bool.{Bool, false, cond, _&&_}
-use mathlib.Core.List.{List, [], map, List·Memᴰ as In, List·Memᴰ·tail as there, Memᴰ·cast}
+use mathlib.Core.List.{List, [], map, List·Memᴰ as In, List·Memᴰ·tail as there, Memᴰ·cast, Memᴰ·map as in-map}
 use Prim.Native.Nat.{ℕ, _<_}
 use native.Mathlib.Omega.{arith}
 use lib.Dec.{T, eqb, eqb-refl}
 use Rattle.lists.specs.Lists.{range, consIf, keep, each, isIn}
+use Rattle.lists.proofs.Every.{each-map}
 use Rattle.lists.specs.Reach.{here as arrived, step, reached}
 use Rattle.lists.proofs.Member.{T→eq, or-left, both3, any-each}
 use Rattle.lists.proofs.Rising.{keep-rising}
@@ -20,7 +21,7 @@ use Rattle.paper.proofs.Numbers.{cube-place, cube-inside, cube-back}
 use Rattle.paper.proofs.Visits.{in-lattice, lattice-in, step-lt, visited-lt}
 use Rattle.pairing.specs.Pairing.{times, outer, Paired}
 use Rattle.pairing.specs.Visitable.{trianglesAt, unshared}
-use Rattle.pairing.proofs.Count.{list-in, in-list, any-at, each-map, map-in, in-map, map-unique, rising-unique, Unique}
+use Rattle.pairing.proofs.Count.{list-in, in-list, any-at, map-in, map-unique, rising-unique, Unique}
 use Rattle.pairing.proofs.Table.{flat}
 use Rattle.pairing.proofs.Whole.{Spread, Settled, times-are, settled, lone}
 use Rattle.pairing.proofs.Outer.{unshared-is, outer-is}

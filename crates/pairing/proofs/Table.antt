@@ -9,12 +9,14 @@ use lib.Dec.{T, eqb, ltb, eqb→eq, ltb→lt}
 use lib.ListN.{getD, List·getD-map}
 use Rattle.lists.specs.Lists.{range, keep, any, all, each}
 use Rattle.lists.proofs.Member.{T→eq, or-cases, and-both, and-left, and-right, and3, both3}
+use Rattle.lists.proofs.Every.{all-test, all-getD, each-map}
+use Rattle.lists.proofs.Computed.{both, both-at}
 use Rattle.paper.specs.declared.Place.{Place}
 use Rattle.paper.specs.Lattice.{place, corner, mixed}
 use Rattle.paper.specs.Tables.{Ends, Tet, Tri, ends, tri, tets, rows, tetEdges, kinds, low, joins, kindOf}
 use Rattle.paper.specs.Sheet.{rowOf}
 use Rattle.pairing.specs.Pairing.{count, Arrow, around}
-use Rattle.pairing.proofs.Count.{holds, eqb-of, all-in, all-getD, all-each, all-map, each-map, each-each, map-each, count-step, count-keep, map-in}
+use Rattle.pairing.proofs.Count.{holds, eqb-of, all-in, all-each, all-map, each-each, map-each, count-step, count-keep, map-in}
 
 -- an edge of a cube as one number, its code: 8 times the corner at its anchor, plus its kind
 unfoldable pub code : Ends → ℕ
@@ -193,9 +195,6 @@ test cs x y z s = let l = sidesIn cs s in tests (cubeTests x y z s l)
 abbrev pub pick8 : Bool → Bool → Bool → Bool → Bool → Bool → Bool → Bool → ℕ → Bool
 pick8 a b c d e g h i n = getD (a ∷ b ∷ c ∷ d ∷ e ∷ g ∷ h ∷ i ∷ []) n false
 
-abbrev both : (Bool → Bool) → Bool
-both f = f true && f false
-
 -- all patterns that begin with two given sides; the tables are computed once for each such part
 abbrev part : Bool → Bool → Bool
 part a b =
@@ -220,10 +219,6 @@ part-ft = tt
 part-ff : T (part false false)
 unfolding cells cellOf faceX faceY faceZ faceSides test faced lowRow highRow good lows highs turned alike sidesIn same flat span sideOf codeTri codeAt code rowOf tets rows tetEdges kinds low joins kindOf corner mixed lowFace highFace around
 part-ff = tt
-
-both-at : (f : Bool → Bool) → T (both f) → (b : Bool) → T (f b)
-both-at f t true = and-left (f true) (f false) t
-both-at f t false = and-right (f true) (f false) t
 
 parts : (a b : Bool) → T (part a b)
 parts true true = part-tt
@@ -287,7 +282,8 @@ neat-in s =
         let p = all (λ r. all neat (each around (map (codeTri t) r))) rows in
         let r = all (λ t. all (λ r. all neat (each around (map (codeTri t) r))) rows) l in
         and-both (all neat (each around (map (codeTri t) (at t)))) (all (λ t. all neat (each around (map (codeTri t) (at t)))) l)
-        (all-getD (λ r. all neat (each around (map (codeTri t) r))) rows (rowOf (s (t .a)) (s (t .b)) (s (t .c)) (s (t .d))) [] (and-left p r q) tt)
+        (all-getD (λ l. T (all neat (each around (map (codeTri t) l)))) rows [] tt (all-test (λ l. all neat (each around (map (codeTri t) l))) rows (and-left p r q))
+        (rowOf (s (t .a)) (s (t .b)) (s (t .c)) (s (t .d))))
         (go l (and-right p r q))
 
 -- eight corners decide all of it

@@ -1,7 +1,7 @@
 -- The vertices of a sheet are the side-changing edges of its visited cubes, each once, and hold the corners of its triangles. Assumes nothing.
 use mathlib.Core.Path.{_≡_, refl, sym, subst}
 use mathlib.Core.Bool.{Bool, true, false, xor, _&&_}
-use mathlib.Core.List.{List, [], _∷_, map, List·Memᴰ as In}
+use mathlib.Core.List.{List, [], _∷_, map, List·Memᴰ as In, Memᴰ·map as in-map}
 use Prim.Native.Nat.{ℕ, zero, suc, _+_, _-_, _*_, _<_}
 use native.Mathlib.Omega.{arith}
 use lib.Dec.{T, ltb, ltb→lt}
@@ -18,8 +18,8 @@ use Rattle.paper.specs.Sheet.{edgeNo, split, cubeEdges, vertexEdges, rowOf, row
 use Rattle.paper.proofs.Numbers.{sample-lt, cube-inside, corner-inside}
 use Rattle.paper.proofs.Visits.{visited-exactly, visited-lt}
 use Rattle.pairing.specs.Pairing.{Carried, OneVertex}
-use Rattle.pairing.proofs.Count.{list-in, in-list, all-in, nth-in, keep-in, in-keep, each-in, in-each, map-in, in-map, rising-unique, count-unique}
-use Rattle.pairing.proofs.Edges.{kind-lt}
+use Rattle.pairing.proofs.Count.{list-in, in-list, all-in, nth-in, keep-in, in-keep, each-in, in-each, map-in, rising-unique, count-unique}
+use Rattle.paper.proofs.Tables.{kind-lt}
 
 -- ── rows ──
 

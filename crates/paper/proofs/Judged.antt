@@ -2,12 +2,11 @@
 use mathlib.Core.Path.{_≡_, refl, sym, subst}
 use mathlib.Core.Bool.{Bool, true, false, cond, _&&_}
 use mathlib.Core.List.{List, [], _∷_, _++_}
-use Prim.Native.Nat.{ℕ, _<_}
+use Prim.Native.Nat.{_<_}
 use native.Mathlib.Omega.{arith}
-use borrow.Author.Tests.{le-leb, leb-true}
-use lib.Dec.{T, leb}
+use borrow.Author.Tests.{le-leb}
+use lib.Dec.{T}
 use Rattle.paper.specs.declared.Sizes.{Sizes}
-use Rattle.paper.specs.declared.Verdict.{Verdict}
 use Rattle.paper.specs.Lattice.{axis, axes}
 use Rattle.paper.specs.Tests.{Test, verdict, judge}
 use Rattle.paper.specs.Within.{Sized}

@@ -1,9 +1,11 @@
 -- Laws of the definitions.
 pub mod Worked
+pub mod Ints
 pub mod Numbers
 pub mod Tables
 pub mod Edges
 pub mod Crossing
+pub mod Records
 pub mod Listing
 pub mod Limits
 pub mod Visits

@@ -7,7 +7,7 @@ use Prim.Native.Nat.{ℕ, _-_, _*_, _/_, _%_, _<_}
 use native.Mathlib.Omega.{arith}
 use lib.IntN.{ℤ}
 use lib.Dec.{T}
-use lib.ListN.{length, getD, length-map}
+use lib.ListN.{length, getD}
 use Rattle.lists.specs.Lists.{range, keep, each, isIn}
 use Rattle.lists.proofs.Member.{and-both, and-left, and-right, and3, in-keep, in-range, range-in}
 use Rattle.lists.proofs.Every.{All, all-test, all-weak, all-map, all-each, all-in, in-all, each-sub, pick-in, each-length}
@@ -200,8 +200,3 @@ vertex-words-length L S = each-length (vertexRecord L) 4 (record-length L) (S .e
 pub triangle-words-length : (S : Sheet) → length (triangleWords S) ≡ 3 * length (S .triangles)
 unfolding triangleWords
 triangle-words-length S = each-length corners3 3 (λ t. refl) (S .triangles)
-
--- as many triangles by vertices as by edges
-pub same-count : (L : Lattice) (start : ℕ) → length (sheetOf L start .triangles) ≡ length (sheetOf L start .byEdge)
-unfolding sheetOf
-same-count L start = length-map (each (cubeTriangles L) (visited L start)) (numbered (vertexEdges L (visited L start)))

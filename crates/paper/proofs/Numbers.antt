@@ -30,6 +30,13 @@ module _ (w h x y z : ℕ) (hx : x < w) (hy : y < h) where
   digit-z : (x + w * (y + h * z)) / (w * h) ≡ z
   digit-z = sym (div-div-eq-div-mul (x + w * (y + h * z)) w h) ∙ (ap (λ (n : ℕ). n / h) (over-x ∙ turn′) ∙ digits-div z hy)
 
+-- the place of the number that a place gives
+pub digits-place : (w h : ℕ) (p : Place) → p .x < w → p .y < h
+    → let n = p .x + w * (p .y + h * p .z) in place (n % w) (n / w % h) (n / (w * h)) ≡ p
+digits-place w h p hx hy =
+    λ i. place (digit-x w h (p .x) (p .y) (p .z) hx hy i) (digit-y w h (p .x) (p .y) (p .z) hx hy i)
+    (digit-z w h (p .x) (p .y) (p .z) hx hy i)
+
 -- a number below w · (h · d) has three digits
 pub record Digits (w h d n : ℕ) : Type 0 where
   pub x : n % w < w
@@ -68,16 +75,11 @@ cube-lt z p h =
 
 pub sample-place : (z : Sizes) (p : Place) → p .x < z .nx → p .y < z .ny → sampleAt z (sampleNo z p) ≡ p
 unfolding sampleAt sampleNo
-sample-place z p hx hy =
-    λ i. place (digit-x (z .nx) (z .ny) (p .x) (p .y) (p .z) hx hy i) (digit-y (z .nx) (z .ny) (p .x) (p .y) (p .z) hx hy i)
-    (digit-z (z .nx) (z .ny) (p .x) (p .y) (p .z) hx hy i)
+sample-place z p hx hy = digits-place (z .nx) (z .ny) p hx hy
 
 pub cube-place : (z : Sizes) (p : Place) → p .x < z .nx - 1 → p .y < z .ny - 1 → cubeAt z (cubeNo z p) ≡ p
 unfolding cubeAt cubeNo
-cube-place z p hx hy =
-    λ i. place (digit-x (z .nx - 1) (z .ny - 1) (p .x) (p .y) (p .z) hx hy i)
-    (digit-y (z .nx - 1) (z .ny - 1) (p .x) (p .y) (p .z) hx hy i)
-    (digit-z (z .nx - 1) (z .ny - 1) (p .x) (p .y) (p .z) hx hy i)
+cube-place z p hx hy = digits-place (z .nx - 1) (z .ny - 1) p hx hy
 
 module _ (z : Sizes) (s : Sized z) where
   -- the place of a cube's number, and of a sample's

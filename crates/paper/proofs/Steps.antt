@@ -1,25 +1,20 @@
--- Steps "into a neighbour across a shared face": the cube beyond a face shares exactly the face's four corners, and a step leads
--- back. Assumes nothing.
+-- Steps "into a neighbour across a shared face": the cube beyond a face shares the face's four corners, and a step leads back.
+-- Assumes nothing.
 use mathlib.Core.Path.{_≡_, refl, sym, ap, subst, _∙_}
-use mathlib.Core.Bool.{Bool, true, false, not, _&&_, _||_}
+use mathlib.Core.Bool.{false, _&&_}
 use mathlib.Core.List.{List, [], _∷_, map, map-map}
 use Prim.Native.Nat.{ℕ, zero, suc, _+_, _-_, _*_, _/_, _%_, _<_}
 use native.Mathlib.Omega.{arith}
 use lib.Dec.{T, eqb, ltb→lt, lt→ltb}
-use lib.ListN.{getD, length}
-use borrow.Author.Tests.{eq-eqb}
-use Rattle.lists.specs.Lists.{range, all, each, isIn}
-use Rattle.lists.proofs.Member.{and3, both3, any-each, in-consIf, consIf-in, in-range}
-use Rattle.lists.proofs.Every.{all-test, all-in, any-at, at-any}
+use lib.ListN.{length}
+use Rattle.lists.specs.Lists.{each, isIn}
+use Rattle.lists.proofs.Member.{and3, both3, any-each, in-consIf, consIf-in}
+use Rattle.lists.proofs.Every.{any-at, at-any}
 use Rattle.paper.specs.declared.Place.{Place}
-use Rattle.paper.specs.Lattice.{Lattice, Face, place, face, airAt, cubes, cubeNo, cubeAt, corner, mixed, mixedAt, inLattice, faces, stepOver, steps}
+use Rattle.paper.specs.Lattice.{Lattice, Face, place, face, airAt, cubes, cubeNo, cubeAt, corner, mixed, mixedAt, inLattice, faces, faceAt, stepOver, steps}
 use Rattle.paper.specs.Within.{Sized}
 use Rattle.paper.proofs.Numbers.{cube-inside, cube-back, cube-place}
 use Rattle.paper.proofs.Visits.{in-lattice, lattice-in}
-
--- face i of the cube at p: 0 and 1 at the low and the high x end, 2 and 3 at those of y, 4 and 5 at those of z
-abbrev pub faceAt : Place → ℕ → Face
-faceAt p i = getD (faces p) i (face [] false p)
 
 -- the other end of the same axis
 abbrev pub opposite : ℕ → ℕ
@@ -33,7 +28,7 @@ pub record Shared (p : Place) (f g : Face) : Type 0 where
 
 -- the cube beyond a face shares the face's four corners: they are those of its own opposite face
 pub face-shared : (p : Place) (i : ℕ) → i < 6 → T (faceAt p i .there) → Shared p (faceAt p i) (faceAt (faceAt p i .beyond) (opposite i))
-unfolding faces corner
+unfolding faces faceAt corner
 face-shared p zero h t =
     let g = ltb→lt 0 (p .x) t in
     let back : p .x - 1 + 1 ≡ p .x = omega arith in
@@ -87,36 +82,6 @@ face-shared p (suc (suc (suc (suc (suc zero))))) h t =
     }
 face-shared p (suc (suc (suc (suc (suc (suc i)))))) h t = absurd (omega arith)
 
--- the corners of a cube at one end of an axis, by a test that computes
-end-of : (bit : ℕ → ℕ) (v : ℕ) (cs : List ℕ) → T (all (λ c. not (eqb (bit c) v) || isIn cs c) (range 0 8))
-    → (c : ℕ) → c < 8 → bit c ≡ v → T (isIn cs c)
-end-of bit v cs h c hc e =
-    go (eqb (bit c) v) (eq-eqb (bit c) v e)
-    (all-in (λ c. T (not (eqb (bit c) v) || isIn cs c)) (range 0 8) (all-test (λ c. not (eqb (bit c) v) || isIn cs c) (range 0 8) h) c
-    (in-range 0 8 c (omega arith) (omega arith)))
-  where
-    go : (b : Bool) → b ≡ true → T (not b || isIn cs c) → T (isIn cs c)
-    go true e t = t
-    go false e t = absurd (subst T (sym e) tt)
-
--- and no other: a sample that is a corner of both is one of the face's
-pub face-only : (p : Place) (i : ℕ) → i < 6 → T (faceAt p i .there) → (c d : ℕ) → c < 8 → d < 8
-    → corner p c ≡ corner (faceAt p i .beyond) d → T (isIn (faceAt p i .corners) c)
-unfolding faces corner
-face-only p zero h t c d hc hd e =
-    end-of (λ c. c % 2) 0 (0 ∷ 2 ∷ 4 ∷ 6 ∷ []) tt c hc (omega (arith, ltb→lt 0 (p .x) t, ap (λ (q : Place). q .x) e))
-face-only p (suc zero) h t c d hc hd e =
-    end-of (λ c. c % 2) 1 (1 ∷ 3 ∷ 5 ∷ 7 ∷ []) tt c hc (omega (arith, ap (λ (q : Place). q .x) e))
-face-only p (suc (suc zero)) h t c d hc hd e =
-    end-of (λ c. c / 2 % 2) 0 (0 ∷ 1 ∷ 4 ∷ 5 ∷ []) tt c hc (omega (arith, ltb→lt 0 (p .y) t, ap (λ (q : Place). q .y) e))
-face-only p (suc (suc (suc zero))) h t c d hc hd e =
-    end-of (λ c. c / 2 % 2) 1 (2 ∷ 3 ∷ 6 ∷ 7 ∷ []) tt c hc (omega (arith, ap (λ (q : Place). q .y) e))
-face-only p (suc (suc (suc (suc zero)))) h t c d hc hd e =
-    end-of (λ c. c / 4) 0 (0 ∷ 1 ∷ 2 ∷ 3 ∷ []) tt c hc (omega (arith, ltb→lt 0 (p .z) t, ap (λ (q : Place). q .z) e))
-face-only p (suc (suc (suc (suc (suc zero))))) h t c d hc hd e =
-    end-of (λ c. c / 4) 1 (4 ∷ 5 ∷ 6 ∷ 7 ∷ []) tt c hc (omega (arith, ap (λ (q : Place). q .z) e))
-face-only p (suc (suc (suc (suc (suc (suc i)))))) h t c d hc hd e = absurd (omega arith)
-
 -- ── steps ──
 
 mixed-samples : (L : Lattice) (p : Place) (cs : List ℕ) → mixedAt L p cs ≡ mixed (map (airAt L) (map (corner p) cs))
@@ -129,7 +94,7 @@ six p = refl
 
 -- a step leads back to the cube that it came from
 pub step-back : (L : Lattice) → Sized (L .size) → (j k : ℕ) → j < cubes (L .size) → T (isIn (steps L j) k) → T (isIn (steps L k) j)
-unfolding steps stepOver
+unfolding steps stepOver faceAt
 step-back L s j k hj t =
     let z = L .size in
     let p = cubeAt z j in

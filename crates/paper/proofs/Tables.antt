@@ -1,5 +1,5 @@
 -- Document 01's tables: tests of every edge and of every triangle of the six tetrahedra and sixteen rows, each computed once and
--- carried to any entry by `at-edge` or `at-triangle`. Assumes nothing.
+-- carried to every entry by `on-edges` or `on-triangles`. Assumes nothing.
 use mathlib.Core.Path.{_≡_, refl, sym, subst}
 use mathlib.Core.Bool.{Bool, true, false, cond, xor, _&&_, _||_}
 use mathlib.Core.List.{List, [], _∷_, map}
@@ -7,11 +7,11 @@ use Prim.Native.Nat.{ℕ, _+_, _-_, _*_, _/_, _%_, min, _≤_, _<_}
 use native.Mathlib.Omega.{arith}
 use lib.IntN.{ℤ, pos, _+ℤ_, _-ℤ_, _*ℤ_}
 use lib.Signed.{ltZ}
-use lib.Dec.{T, eqb, ltb, leb, eqb→eq, leb→le, lit<}
+use lib.Dec.{T, eqb, ltb, leb, leb→le, lit<}
 use lib.ListN.{length, getD, length-map}
 use Rattle.lists.specs.Lists.{range, keep, any, all}
-use Rattle.lists.proofs.Member.{and-right, in-range}
-use Rattle.lists.proofs.Every.{All, all-test, all-weak, all-at, all-getD, all-in, all-map, all-keep, all-each, each-le}
+use Rattle.lists.proofs.Member.{in-range}
+use Rattle.lists.proofs.Every.{All, all-test, all-weak, all-getD, all-in, all-map, all-keep, all-each, each-le}
 use Rattle.lists.proofs.Runs.{first-lt}
 use Rattle.paper.specs.declared.Place.{Place}
 use Rattle.paper.specs.Lattice.{Lattice, cubeAt}
@@ -51,21 +51,6 @@ on-triangles p h =
     all-test (p t n) (getD rows n [])
     (all-in (λ m. T (all (p t m) (getD rows m []))) (range 0 16) (all-test (λ m. all (p t m) (getD rows m [])) (range 0 16) g) n (in-range 0 16 n (omega arith) (omega arith))))
     tets (all-test (λ t. all (λ n. all (p t n) (getD rows n [])) (range 0 16)) tets h)
-
--- what is tested holds of edge j + 1 of tetrahedron i + 1
-pub at-edge : (p : Ends → Bool) → T (everyEdge p) → (i j : ℕ) → i < 6 → 0 < j → j ≤ 6 → T (p (edgeOf (tetAt i) j))
-unfolding tets tetEdges
-at-edge p h i j hi h₀ hj =
-    all-at (λ e. T (p e)) (tetEdges (tetAt i)) (ends 0 0) (all-at (λ t. All (λ e. T (p e)) (tetEdges t)) tets (tet 0 0 0 0) (on-edges p h) i hi)
-    (j - 1) (omega arith)
-
--- what is tested holds of triangle j + 1 of row n of tetrahedron i + 1
-pub at-triangle : (p : Tet → ℕ → Tri → Bool) → T (everyTriangle p)
-    → (i n j : ℕ) → i < 6 → n < 16 → j < length (getD rows n []) → T (p (tetAt i) n (triangleAt n j))
-unfolding tets
-at-triangle p h i n j hi hn hj =
-    all-at (λ r. T (p (tetAt i) n r)) (getD rows n []) (tri 0 0 0)
-    (all-at (λ t. (m : ℕ) → m < 16 → All (λ r. T (p t m r)) (getD rows m [])) tets (tet 0 0 0 0) (on-triangles p h) i hi n hn) j hj
 
 -- ── rows ──
 
@@ -230,10 +215,6 @@ kindAgrees e = ltb 0 (span e) && ltb (span e) 8 && eqb (kindOf e) (getD kindsByS
 pub kinds-agree : T (everyEdge kindAgrees)
 unfolding everyEdge kindAgrees span kindsBySpan tets tetEdges kinds kindOf joins low
 kinds-agree = tt
-
-pub kind-by-span : (e : Ends) → T (kindAgrees e) → kindOf e ≡ getD kindsBySpan (span e) 0
-unfolding kindAgrees
-kind-by-span e h = eqb→eq (kindOf e) (getD kindsBySpan (span e) 0) (and-right (ltb 0 (span e) && ltb (span e) 8) _ h)
 
 -- the kind of any pair of corners is one of the seven
 pub kind-lt : (e : Ends) → kindOf e < 7

@@ -1,5 +1,5 @@
 -- Document 01, "Lattice, sides, numbers". Assumes nothing.
-use mathlib.Core.Bool.{Bool, true, not, _&&_}
+use mathlib.Core.Bool.{Bool, true, false, not, _&&_}
 use mathlib.Core.List.{List, [], _∷_, map}
 use Prim.Native.Nat.{ℕ, _+_, _-_, _*_, _/_, _%_}
 use lib.IntN.{ℤ, pos}
@@ -127,6 +127,10 @@ faces p =
     ∷ face (LBN ∷ RBN ∷ LTN ∷ RTN ∷ []) (ltb 0 (p .z)) (place (p .x) (p .y) (p .z - 1))
     ∷ face (LBF ∷ RBF ∷ LTF ∷ RTF ∷ []) true (place (p .x) (p .y) (p .z + 1))
     ∷ []
+
+-- face i of the cube at p: 0 and 1 at the low and the high x end, 2 and 3 at those of y, 4 and 5 at those of z
+unfoldable pub faceAt : Place → ℕ → Face
+faceAt p i = getD (faces p) i (face [] false p)
 
 -- "steps into a neighbour across a shared face whose four corners are not all on one side"
 unfoldable pub stepOver : Lattice → Place → Face → List ℕ

@@ -1,5 +1,4 @@
 -- Laws of the records.
 pub mod Numbers
 pub mod Laws
-pub mod Firsts
 pub mod Meaning

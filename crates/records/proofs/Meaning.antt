@@ -3,48 +3,27 @@ use mathlib.Core.Path.{_≡_, refl, sym, ap, subst, _∙_}
 use mathlib.Core.Logic.{inl, inr}
 use mathlib.Core.Bool.{Bool, true, false, cond, not, _&&_, _||_}
 use mathlib.Core.List.{List, map}
-use Prim.Native.Nat.{ℕ, zero, suc, _+_, _*_, _/_, _%_, _≤_, _<_}
+use Prim.Native.Nat.{ℕ, zero, suc, _+_, _≤_, _<_}
 use native.Mathlib.Omega.{arith}
 use lib.IntN.{ℤ, pos, negsuc}
 use lib.Dec.{T, eqb, ltb, eqb→eq, eqb-refl, T-not, not-T}
-use lib.ListN.{length, getD, drop, set}
-use lib.Seq.{getD-take, getD-drop, drop-set-lt}
+use lib.ListN.{length, drop, set}
+use lib.Seq.{drop-set-lt}
 use borrow.Author.Tests.{lt-ltb, ltb-true, not-false, eqb-false}
 use lib.Arith.{lt-of-le-ne}
 use Rattle.lists.specs.Lists.{range, any, isIn, first}
 use Rattle.lists.proofs.Member.{T→eq, eq→T, or-cases, or-left, or-right, and-both, and-left, and-right, and3, both3, any-in, in-any, in-range, range-in}
 use Rattle.lists.proofs.Every.{All, all-in}
 use Rattle.lists.proofs.Closure.{bool-same}
-use Rattle.paper.specs.declared.Place.{Place}
-use Rattle.paper.specs.Lattice.{Lattice, sampleAt, airAt, corner}
-use Rattle.paper.specs.Tables.{ends, kinds}
-use Rattle.paper.specs.Sheet.{Sheet, recordAt, vertexRecord}
+use Rattle.lists.proofs.Firsts.{first-before}
+use Rattle.paper.specs.Lattice.{Lattice}
+use Rattle.paper.specs.Sheet.{Sheet, vertexRecord}
 use Rattle.paper.specs.Build.{neededSlots}
 use Rattle.paper.specs.Check.{sameNumber, sameNumbers, recordOf, edgeOf, badRecord}
+use Rattle.paper.proofs.Records.{same-number, number-same, record-edge}
 use Rattle.survey.specs.Marks.{used}
 use Rattle.records.specs.Records.{edgeIn, edgeAt, goodRecord, emptied, edgesTo, slotsAfter, badIn, firstBadIn}
-use Rattle.records.proofs.Numbers.{same-number, number-same, same-numbers}
-use Rattle.records.proofs.Firsts.{first-before}
 use Rattle.records.proofs.Laws.{emptied-used}
-
--- a vertex record begins with its edge
-pub first-number : (L : Lattice) (e : ℕ) → getD (vertexRecord L e) 0 (pos 0) ≡ pos e
-unfolding vertexRecord recordAt
-first-number L e =
-    let anchor = sampleAt (L .size) (e / 7) in
-    let k = getD kinds (e % 7) (ends 0 0) in
-    go (airAt L (corner anchor (k .a))) (corner anchor (k .a)) (corner anchor (k .b))
-  where
-    go : (b : Bool) (u v : Place) → getD (cond b (recordAt L e v u) (recordAt L e u v)) 0 (pos 0) ≡ pos e
-    go true u v = refl
-    go false u v = refl
-
-pub record-edge : (L : Lattice) (vs : List ℤ) (i e : ℕ) → T (sameNumbers (recordOf vs i) (vertexRecord L e)) → edgeOf vs i ≡ pos e
-unfolding recordOf edgeOf
-record-edge L vs i e t =
-    ap (λ (n : ℕ). getD vs n (pos 0)) (omega arith)
-    ∙ (sym (getD-take 4 (drop (4 * i) vs) 0 (pos 0) (omega arith) ∙ getD-drop (4 * i) vs 0 (pos 0))
-    ∙ (ap (λ (l : List ℤ). getD l 0 (pos 0)) (same-numbers (recordOf vs i) (vertexRecord L e) t) ∙ first-number L e))
 
 -- an edge among n
 pub edge-in : (e n : ℕ) → e < n → edgeIn (pos e) n ≡ e

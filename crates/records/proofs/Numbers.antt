@@ -6,39 +6,17 @@ use Prim.Native.Nat.{ℕ, suc, _+_, _*_, _≤_, _<_}
 use native.Mathlib.Omega.{arith}
 use lib.IntN.{ℤ, pos, negsuc, natAbs}
 use lib.Signed.{ltZ, nonNeg}
-use lib.Dec.{T, eqb, ltb, eqb→eq, eqb-refl}
+use lib.Dec.{T, eqb, eqb→eq, eqb-refl}
 use lib.ListN.{length, getD, take, drop}
 use lib.Seq.{drop-cons}
 use borrow.Author.Tests.{lt-ltb, le-ltb, ltb-true}
 use mir.Syntax.{Width}
 use mir.Val.{SFits, toZ, ofZ}
 use mir.Facts.{toZ-ofZ}
-use Rattle.lists.proofs.Member.{and-left, and-right}
 use Rattle.lists.proofs.Closure.{bool-same}
-use Rattle.paper.specs.Check.{sameNumber, sameNumbers, recordOf}
+use Rattle.paper.specs.Check.{sameNumber, recordOf}
+use Rattle.paper.proofs.Records.{same-number, number-same}
 use Rattle.records.specs.Records.{edgeIn}
-
-pub same-number : (x y : ℤ) → T (sameNumber x y) → x ≡ y
-same-number (pos m) (pos n) t = ap pos (eqb→eq m n t)
-same-number (pos m) (negsuc n) t = absurd t
-same-number (negsuc m) (pos n) t = absurd t
-same-number (negsuc m) (negsuc n) t = ap negsuc (eqb→eq m n t)
-
-same-refl : (x : ℤ) → T (sameNumber x x)
-same-refl (pos m) = eqb-refl m
-same-refl (negsuc m) = eqb-refl m
-
-pub number-same : {x y : ℤ} → x ≡ y → T (sameNumber x y)
-number-same {x} {y} e = subst (λ (k : ℤ). T (sameNumber x k)) e (same-refl x)
-
-pub same-numbers : (l m : List ℤ) → T (sameNumbers l m) → l ≡ m
-same-numbers [] [] t = refl
-same-numbers [] (y ∷ ys) t = absurd t
-same-numbers (x ∷ xs) [] t = absurd t
-same-numbers (x ∷ xs) (y ∷ ys) t =
-    let e = same-number x y (and-left (sameNumber x y) (sameNumbers xs ys) t) in
-    let r = same-numbers xs ys (and-right (sameNumber x y) (sameNumbers xs ys) t) in
-    λ i. e i ∷ r i
 
 -- the machine compares bits
 pub same-bits : {w : Width} (x y : ℤ) → SFits w x → SFits w y → eqb (ofZ w x) (ofZ w y) ≡ sameNumber x y

@@ -17,7 +17,8 @@ use Rattle.paper.specs.Tests.{Test, test, judge, verdict}
 use Rattle.paper.specs.Build.{outputAfter}
 use Rattle.paper.specs.File.{signed32, contentOf, trailerAt, fileLength, fileBytes, firstBad, indexTest, limits, writeVerdict, wrote, Writes, fileV, fileT, fileSizes, fileVertices, fileTriangles, fileTests, readVerdict, got, Reads}
 use Rattle.paper.proofs.Judged.{Numbered, Passed, numbered-both, passed-both, judge-all, judge-none, passed-judge, sized, sized-axes}
-use Rattle.codec.proofs.Runs.{sets-over, wordAt}
+use Rattle.lists.proofs.Stores.{sets-front}
+use Rattle.codec.proofs.Runs.{wordAt}
 use Rattle.layout.proofs.Trailer.{vertices-are, triangles-are, vertices-length, triangles-length}
 use Rattle.layout.proofs.Passing.{file-numbered, passed-laid}
 use Rattle.sheetfile.specs.Taken.{Taken, Room}
@@ -137,8 +138,8 @@ module _ (bs : List ℕ) (vs : List ℤ) (ts : List ℕ) where
       read-done nv nt z vs′ ts′ ev et ez a b =
           let n = readable-none in
           let r = readable-laid in
-          let v : sets vs 0 (fileVertices bs) ≡ over (fileVertices bs) vs = sets-over vs (fileVertices bs) (omega (arith, vertices-length bs, r .room-v)) in
-          let t : sets ts 0 (fileTriangles bs) ≡ over (fileTriangles bs) ts = sets-over ts (fileTriangles bs) (omega (arith, triangles-length bs, r .room-t)) in
+          let v : sets vs 0 (fileVertices bs) ≡ over (fileVertices bs) vs = sets-front vs (fileVertices bs) (omega (arith, vertices-length bs, r .room-v)) in
+          let t : sets ts 0 (fileTriangles bs) ≡ over (fileTriangles bs) ts = sets-front ts (fileTriangles bs) (omega (arith, triangles-length bs, r .room-t)) in
           record {
             answer = rw (n, ev, et, ez);
             vertices = rw n (a ∙ rw (ev, vertices-are) v);

@@ -14,7 +14,8 @@ use Rattle.lists.specs.Bytes.{le}
 use Rattle.paper.specs.declared.Sizes.{Sizes}
 use Rattle.paper.specs.File.{contentOf, fileBytes, trailerBytes, limits}
 use Rattle.codec.specs.Words.{wordBytes}
-use Rattle.codec.proofs.Runs.{sets-more, sets-over, each-length}
+use Rattle.lists.proofs.Every.{each-length}
+use Rattle.lists.proofs.Stores.{sets-join, sets-front}
 use Rattle.sheetfile.specs.Taken.{countBytes, sizeBytes, Writable}
 use Rattle.paper.proofs.Judged.{both}
 use Rattle.layout.proofs.Trailer.{in-limits}
@@ -22,7 +23,7 @@ use Rattle.layout.proofs.Trailer.{in-limits}
 -- one list stored after another
 pub next : (l : List ℕ) {l₁ l₂ : List ℕ} (at to : ℕ) (a b : List ℕ) → at + length a ≡ to → l₁ ≡ sets l at a → l₂ ≡ sets l₁ to b → l₂ ≡ sets l at (a ++ b)
 next l at to a b n e f =
-    f ∙ (ap (λ (m : List ℕ). sets m to b) e ∙ (ap (λ (k : ℕ). sets (sets l at a) k b) (sym n) ∙ sets-more l at a b))
+    f ∙ (ap (λ (m : List ℕ). sets m to b) e ∙ (ap (λ (k : ℕ). sets (sets l at a) k b) (sym n) ∙ sets-join l a b at))
 
 -- four of one width
 pub four : (l : List ℕ) {l₁ l₂ l₃ l₄ : List ℕ} (w at : ℕ) (a b c d : List ℕ) → length a ≡ w → length b ≡ w → length c ≡ w
@@ -103,4 +104,4 @@ module _ (z : Sizes) (nv nt : ℕ) (vs : List ℤ) (ts : List ℕ) (room : Writa
       let y = each (le 4) (take (3 * nt) ts) in
       parts-stored l x y (countBytes nv nt) (sizeBytes z) vertices-long triangles-long (counts-long nv nt) e₁ e₂ e₃ e₄
       ∙ (ap (λ (t : List ℕ). sets l 0 (x ++ y ++ t)) (halves z nv nt)
-      ∙ (ap (sets l 0) whole ∙ sets-over l (fileBytes (contentOf z nv nt vs ts)) (omega (arith, file-long))))
+      ∙ (ap (sets l 0) whole ∙ sets-front l (fileBytes (contentOf z nv nt vs ts)) (omega (arith, file-long))))

@@ -14,7 +14,7 @@ use Rattle.lists.proofs.Runs.{at-along}
 use Rattle.lists.proofs.Computed.{Test8, every8, every8-at, upto, upto-at, below6}
 use Rattle.paper.specs.declared.Sizes.{Sizes}
 use Rattle.paper.specs.declared.Place.{Place}
-use Rattle.paper.specs.Lattice.{Lattice, lattice, air, sampleNo, valueAt, airAt, corner, mixed, mixedAt, crossed, cubes, cubeNo, cubeAt, inLattice, face, place, faces, stepOver, steps}
+use Rattle.paper.specs.Lattice.{Lattice, lattice, air, sampleNo, valueAt, airAt, corner, mixed, mixedAt, crossed, cubes, cubeNo, cubeAt, inLattice, face, place, faces, faceAt, stepOver, steps}
 use Rattle.paper.specs.Sheet.{weight}
 use Rattle.paper.specs.Within.{CubeIn}
 use Rattle.lists.proofs.Closure.{bool-same}
@@ -22,7 +22,7 @@ use Rattle.paper.proofs.Numbers.{cube-place}
 use Rattle.paper.proofs.Visits.{in-lattice, lattice-in}
 use Rattle.lattice.specs.Steps.{cornerStep}
 use Rattle.lattice.proofs.Laws.{corner-no}
-use Rattle.sides.specs.Pattern.{bits, patternAt, sideNo, quarterAt, bitOf, crossedBy, faceCorners, faceCorner, airsBy, mixedBy, faceAt, neighbours, stepTo}
+use Rattle.sides.specs.Pattern.{bits, patternAt, sideNo, quarterAt, bitOf, crossedBy, faceCorners, faceCorner, airsBy, mixedBy, neighbours, stepTo}
 
 same : Bool → Bool → Bool
 same true b = b
@@ -152,7 +152,7 @@ pub step-by : (L : Lattice) (k j : ℕ) → T (isIn (steps L k) j) → (f : ℕ)
 unfolding steps stepOver stepTo neighbours faceAt faces
 step-by L k j t =
     let p = cubeAt (L .size) k in
-    let w = any-at (λ f. isIn (stepOver L p f) j) (faces p) (face [] false (place 0 0 0)) (subst T (any-each (eqb j) (stepOver L p) (faces p)) t) in
+    let w = any-at (λ f. isIn (stepOver L p f) j) (faces p) (face [] false p) (subst T (any-each (eqb j) (stepOver L p) (faces p)) t) in
     let g = faceAt p (w .0) in
     let b = g .there && inLattice (L .size) (g .beyond) && mixedAt L p (g .corners) in
     let e = in-consIf b (cubeNo (L .size) (g .beyond)) j (w .2) in
@@ -169,7 +169,7 @@ by-step L k f h l =
     let g = faceAt p f in
     let b = g .there && inLattice (L .size) (g .beyond) && mixedAt L p (g .corners) in
     subst T (sym (any-each (eqb (stepTo L k f)) (stepOver L p) (faces p)))
-    (at-any (λ g. isIn (stepOver L p g) (stepTo L k f)) (faces p) (face [] false (place 0 0 0)) f h
+    (at-any (λ g. isIn (stepOver L p g) (stepTo L k f)) (faces p) (face [] false p) f h
     (chosen b (cubeNo (L .size) (g .beyond)) (cubes (L .size)) l))
 
 -- ── the cubes beside a cube ──

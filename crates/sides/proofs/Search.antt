@@ -3,20 +3,12 @@ use mathlib.Core.Path.{_≡_, sym, ap, _∙_}
 use mathlib.Core.Bool.{true, false}
 use Prim.Native.Nat.{ℕ, _+_, _-_, _*_, _<_}
 use native.Mathlib.Omega.{arith}
-use native.Mathlib.Decide.{decLt}
 use Rattle.lists.proofs.Runs.{first-at, first-none}
 use Rattle.paper.specs.Lattice.{Lattice, crossed, cubes, cubeNo, place, lowest}
 
 -- no cube below k is crossed
 abbrev pub Clear : Lattice → ℕ → Type 0
 Clear L k = (j : ℕ) → j < k → crossed L j ≡ false
-
-pub clear-more : (L : Lattice) (k : ℕ) → Clear L k → crossed L k ≡ false → Clear L (k + 1)
-clear-more L k h e j l = go (decLt j k)
-  where
-    go : Dec (j < k) → crossed L j ≡ false
-    go (yes a) = h j a
-    go (no b) = ap (crossed L) (omega arith) ∙ e
 
 pub none : (L : Lattice) (k : ℕ) → k ≡ cubes (L .size) → Clear L k → k ≡ lowest L
 unfolding lowest

@@ -1,5 +1,5 @@
 -- The sides of a cube's eight corners as one number, and what follows from it. Assumes nothing.
-use mathlib.Core.Bool.{Bool, false, cond, not, _&&_}
+use mathlib.Core.Bool.{Bool, cond, not, _&&_}
 use mathlib.Core.List.{List, [], _∷_, map}
 use Prim.Native.Nat.{ℕ, _+_, _*_, _/_, _%_, _^_}
 use lib.IntN.{ℤ, pos}
@@ -8,7 +8,7 @@ use lib.ListN.{getD}
 use Rattle.lists.specs.Lists.{range}
 use Rattle.paper.specs.declared.Sizes.{Sizes}
 use Rattle.paper.specs.declared.Place.{Place}
-use Rattle.paper.specs.Lattice.{Lattice, air, Face, face, place, airAt, corner, cubes, cubeNo, cubeAt, inLattice, mixedAt, faces}
+use Rattle.paper.specs.Lattice.{Lattice, air, airAt, corner, cubes, cubeNo, cubeAt, inLattice, mixedAt, faceAt}
 use Rattle.paper.specs.Sheet.{weight}
 
 -- sides as the bits of a number, the first lowest
@@ -65,10 +65,6 @@ airsBy m f =
 
 unfoldable pub mixedBy : ℕ → ℕ → Bool
 mixedBy m f = not (eqb (airsBy m f) 0) && not (eqb (airsBy m f) 4)
-
--- face f of the cube at p
-unfoldable pub faceAt : Place → ℕ → Face
-faceAt p f = getD (faces p) f (face [] false (place 0 0 0))
 
 -- whether a cube of the lattice is beyond face f of the cube at p
 unfoldable pub neighbours : Sizes → Place → ℕ → Bool

@@ -5,10 +5,10 @@ ghost use mathlib.Core.Path.{_≡_};
 ghost use Prim.Native.Nat.{_+_, _*_, _≤_, _<_};
 ghost use lib.Dec.{T};
 ghost use lib.ListN.{length};
-ghost use Rattle.paper.specs.Lattice.{lattice, air, cubeNo, crossed, lowest};
+ghost use Rattle.paper.specs.Lattice.{lattice, air, cubeNo, crossed, faceAt, lowest};
 ghost use Rattle.paper.specs.Sheet.{weight};
 ghost use Rattle.paper.specs.Within.{Sized, Full, CubeIn};
-ghost use Rattle.sides.specs.Pattern.{patternAt, bitOf, digitOf, ofFour, crossedBy, faceCorner, mixedBy, sideNo, quarterAt, faceAt, neighbours};
+ghost use Rattle.sides.specs.Pattern.{patternAt, bitOf, digitOf, ofFour, crossedBy, faceCorner, mixedBy, sideNo, quarterAt, neighbours};
 
 // Above 0 is air.
 pub fn is_air(v: i16) -> bool

@@ -1,7 +1,7 @@
 -- Cubes one after the other: their places, their slots, and what their words say. Assumes nothing.
 use mathlib.Core.Path.{_≡_, refl, sym, ap, subst, _∙_}
 use mathlib.Core.Bool.{Bool, true, false, cond}
-use mathlib.Core.List.{List, [], _∷_, _++_, map}
+use mathlib.Core.List.{List, [], _∷_, map}
 use Prim.Native.Nat.{ℕ, _+_, _-_, _*_, _%_, _≤_, _<_}
 use native.Mathlib.Omega.{arith}
 use lib.Dec.{eqb, ltb, ltb→lt}
@@ -12,11 +12,11 @@ use Rattle.lists.proofs.Computed.{upto-at}
 use Rattle.paper.specs.declared.Sizes.{Sizes}
 use Rattle.paper.specs.declared.Place.{Place}
 use Rattle.paper.specs.Lattice.{place, samples, sampleNo, cubes, cubeNo, cubeAt, corner}
-use Rattle.paper.specs.Tables.{Tri, tri, rows}
-use Rattle.paper.specs.Within.{Sized, SampleIn, CubeIn}
+use Rattle.paper.specs.Tables.{tri, rows}
+use Rattle.paper.specs.Within.{Sized, CubeIn}
 use Rattle.paper.proofs.Numbers.{sample-lt, cube-place, cube-inside, cube-back, corner-inside}
 use Rattle.lattice.specs.Steps.{cornerStep}
-use Rattle.lattice.proofs.Laws.{corner-no, cubes-few}
+use Rattle.lattice.proofs.Laws.{corner-no}
 use Rattle.tetra.specs.Cut.{rowBy, tetStep, rowTriangles, trianglesBy, locals, localAt, localStep, localSteps}
 use Rattle.tetra.proofs.Tables.{local-lt}
 use Rattle.survey.specs.Marks.{baseOf, countBy, countWord, edgesWord, edgesIn, trianglesIn, Slotted}

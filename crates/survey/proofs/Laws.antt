@@ -4,7 +4,6 @@ use mathlib.Core.Bool.{Bool, true, false, cond, not}
 use mathlib.Core.List.{List, [], _∷_, _++_, map, map-append, append-assoc, append-nil}
 use Prim.Native.Nat.{ℕ, zero, suc, _+_, _≤_, _<_}
 use native.Mathlib.Numerals.{add-one}
-use native.Mathlib.Nat.{zero-add}
 use native.Mathlib.Omega.{arith}
 use native.Mathlib.Decide.{decLt}
 use lib.Dec.{eqb}
@@ -12,7 +11,7 @@ use lib.ListN.{length, getD, set, drop, length-set, length-append}
 use lib.Seq.{set-at, getD-at, drop-cons}
 use Rattle.lists.specs.Lists.{range, consIf, keep, each}
 use Rattle.lists.proofs.Every.{each-le}
-use Rattle.lists.proofs.Runs.{range-snoc, keep-snoc, each-append, length-along, at-along, along-snoc}
+use Rattle.lists.proofs.Runs.{range-more, keep-snoc, each-append, length-along, at-along, along-snoc}
 use Rattle.paper.specs.declared.Sizes.{Sizes}
 use Rattle.paper.specs.Tables.{rows}
 use Rattle.paper.proofs.Tables.{row-short}
@@ -70,7 +69,7 @@ countTo m t = length (each (λ t. getD rows (rowBy m t) []) (range 0 t))
 pub each-more : {A : Type 0} (f : ℕ → List A) (k : ℕ) → each f (range 0 (k + 1)) ≡ each f (range 0 k) ++ f k
 each-more f k =
     ap (λ (n : ℕ). each f (range 0 n)) (add-one k)
-    ∙ (ap (each f) (range-snoc 0 k ∙ ap (λ (n : ℕ). range 0 k ++ n ∷ []) (zero-add k))
+    ∙ (ap (each f) (range-more k)
     ∙ (each-append f (range 0 k) (k ∷ []) ∙ ap (λ (l : List _). each f (range 0 k) ++ l) (append-nil (f k))))
 
 -- a longer run makes no less

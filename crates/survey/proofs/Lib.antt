@@ -1,4 +1,3 @@
 -- Laws of the passes.
 pub mod Laws
 pub mod Cubes
-pub mod Stores

@@ -6,7 +6,7 @@ use lib.Dec.{eqb}
 use lib.ListN.{length, getD, set}
 use Rattle.lists.specs.Lists.{range, keep, each}
 use Rattle.paper.specs.declared.Sizes.{Sizes}
-use Rattle.paper.specs.Lattice.{sampleNo, cubes, cubeAt}
+use Rattle.paper.specs.Lattice.{sampleNo, cubeAt}
 use Rattle.paper.specs.Tables.{Tri, rows}
 use Rattle.tetra.specs.Cut.{rowBy, localSplit, localSteps, trianglesBy}
 

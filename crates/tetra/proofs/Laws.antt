@@ -20,12 +20,13 @@ use Rattle.paper.specs.Lattice.{Lattice, sampleNo, airAt, corner, cubeAt}
 use Rattle.paper.specs.Tables.{Ends, Tri, ends, tet, tri, tets, rows, tetEdges, kinds, low, joins, kindOf}
 use Rattle.paper.specs.Sheet.{edgeNo, split, cubeEdges, weight, rowOf, rowAt, tetEdge, triEdges, cubeTriangles, corners3}
 use Rattle.paper.specs.Within.{Sized}
+use Rattle.paper.proofs.Tables.{kind-lt}
 use Rattle.lattice.specs.Steps.{cornerStep}
 use Rattle.lattice.proofs.Laws.{corner-no, floor-few}
 use Rattle.sides.specs.Pattern.{patternAt, bitOf}
 use Rattle.sides.proofs.Laws.{pattern-bit}
 use Rattle.tetra.specs.Cut.{tetAt, tetCorner, tetCorners, tetEnds, rowBy, edgeStep, tetStep, tetSteps, rowCount, rowEdge, rowSteps, rowTriangles, trianglesBy, locals, localAt, localSplit, localStep, edgesBy}
-use Rattle.tetra.proofs.Tables.{tet-corner-lt, low-lt, kind-lt, local-lt}
+use Rattle.tetra.proofs.Tables.{tet-corner-lt, low-lt, local-lt}
 
 -- ── steps are small ──
 
@@ -40,7 +41,7 @@ corner-small z s c h =
 
 pub tet-step-small : (z : Sizes) → Sized z → (t j : ℕ) → t < 6 → j < 6 → tetStep z t j ≤ 29133
 unfolding tetStep edgeStep
-tet-step-small z s t j ht hj = omega (arith, corner-small z s (low (tetEnds t j)) (low-lt t j ht hj), kind-lt t j ht hj)
+tet-step-small z s t j ht hj = omega (arith, corner-small z s (low (tetEnds t j)) (low-lt t j ht hj), kind-lt (tetEnds t j))
 
 -- ── steps and rows at a place ──
 

@@ -2,15 +2,17 @@
 use mathlib.Core.Path.{_≡_}
 use mathlib.Core.Bool.{Bool}
 use mathlib.Core.List.{List, [], _∷_}
-use Prim.Native.Nat.{ℕ, _-_, _≤_, _<_}
+use Prim.Native.Nat.{ℕ, _≤_, _<_}
 use native.Mathlib.Omega.{arith}
-use lib.Dec.{T, eqb, eqb→eq, ltb, ltb→lt, leb, leb→le}
-use lib.ListN.{getD}
+use lib.Dec.{T, eqb, eqb→eq, ltb, ltb→lt}
+use lib.ListN.{length, getD, length-map}
 use Rattle.lists.specs.Lists.{each}
-use Rattle.lists.proofs.Computed.{upto-at, grid, grid-at}
+use Rattle.lists.proofs.Computed.{grid, grid-at}
+use Rattle.paper.specs.declared.Sizes.{Sizes}
 use Rattle.paper.specs.Tables.{tets, rows, tetEdges, kinds, low, joins, kindOf}
 use Rattle.paper.specs.Sheet.{corners3}
-use Rattle.tetra.specs.Cut.{tetAt, tetCorner, tetEnds, rowCount, rowEdge, locals, localAt}
+use Rattle.paper.proofs.Tables.{row-short}
+use Rattle.tetra.specs.Cut.{tetAt, tetCorner, tetEnds, rowCount, rowEdge, rowTriangles, locals, localAt}
 
 -- the entries of a table are f's
 unfoldable pub tabled : (ℕ → ℕ → ℕ) → ℕ → ℕ → List (List ℕ) → Bool
@@ -57,14 +59,14 @@ pub low-lt : (t j : ℕ) → t < 6 → j < 6 → low (tetEnds t j) < 8
 unfolding tetEnds tetAt tets tetEdges low
 low-lt t j ht hj = ltb→lt (low (tetEnds t j)) 8 (grid-at 6 6 (λ t j. ltb (low (tetEnds t j)) 8) tt t j ht hj)
 
-pub kind-lt : (t j : ℕ) → t < 6 → j < 6 → kindOf (tetEnds t j) < 7
-unfolding tetEnds tetAt tets tetEdges low joins kinds kindOf
-kind-lt t j ht hj = ltb→lt (kindOf (tetEnds t j)) 7 (grid-at 6 6 (λ t j. ltb (kindOf (tetEnds t j)) 7) tt t j ht hj)
-
 -- counts and edges of rows
-pub count-le : (r : ℕ) → r < 16 → rowCount r ≤ 2
-unfolding rowCount rows
-count-le r h = leb→le (rowCount r) 2 (upto-at 16 (λ r. leb (rowCount r) 2) tt r h)
+pub count-le : (r : ℕ) → rowCount r ≤ 2
+unfolding rowCount
+count-le r = row-short r
+
+pub row-length : (z : Sizes) (base t r : ℕ) → length (rowTriangles z base t r) ≡ rowCount r
+unfolding rowTriangles rowCount
+row-length z base t r = length-map (getD rows r []) _
 
 -- e1 to e6 of a row's triangles as numbers from 1, three to a triangle, and 0 past the last
 unfoldable pub rowNumber : ℕ → ℕ → ℕ

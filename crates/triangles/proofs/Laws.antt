@@ -2,30 +2,30 @@
 use mathlib.Core.Path.{_≡_, refl, sym, ap, subst, _∙_}
 use mathlib.Core.Bool.{Bool, cond}
 use mathlib.Core.List.{List, [], _∷_, _++_, append-nil}
-use Prim.Native.Nat.{ℕ, _+_, _-_, _*_, _%_, _≤_, _<_}
+use Prim.Native.Nat.{ℕ, _+_, _*_, _%_, _≤_, _<_}
 use native.Mathlib.Omega.{arith}
-use native.Mathlib.Nat.{zero-add}
 use native.Mathlib.Numerals.{add-one}
 use lib.Dec.{eqb}
-use lib.ListN.{length, getD, take, drop, length-append, length-map}
-use lib.Seq.{sets, sets-eq, length-sets, take-suc, take-all, length-take-le}
+use lib.ListN.{length, getD, take, length-append}
+use lib.Seq.{sets, length-sets, take-suc, take-all, length-take-le}
 use borrow.Author.Tests.{eq-eqb, ne-eqb}
 use Rattle.lists.specs.Lists.{range, each, over}
 use Rattle.lists.proofs.Every.{each-length}
 use Rattle.lists.proofs.Runs.{each-append}
 use Rattle.paper.specs.declared.Sizes.{Sizes}
 use Rattle.paper.specs.Lattice.{samples, cubes, cubeAt, corner}
-use Rattle.paper.specs.Tables.{Tri, tri, rows, low}
+use Rattle.paper.specs.Tables.{Tri, tri, low}
 use Rattle.paper.specs.Sheet.{corners3}
 use Rattle.paper.specs.Within.{Sized}
 use Rattle.paper.proofs.Numbers.{sample-lt, cube-inside, corner-inside}
 use Rattle.lattice.proofs.Laws.{corner-no}
 use Rattle.tetra.specs.Cut.{tetEnds, edgeStep, tetStep, rowBy, rowCount, rowEdge, rowTriangles, trianglesBy}
-use Rattle.tetra.proofs.Tables.{low-lt, kind-lt, count-le, edge-six}
+use Rattle.paper.proofs.Tables.{kind-lt}
+use Rattle.tetra.proofs.Tables.{low-lt, count-le, row-length, edge-six}
 use Rattle.tetra.proofs.Laws.{row-triangle}
 use Rattle.survey.specs.Marks.{baseOf, trianglesIn, trianglesUpto}
 use Rattle.survey.proofs.Laws.{each-more, each-prefix}
-use Rattle.survey.proofs.Stores.{sets-join}
+use Rattle.lists.proofs.Stores.{sets-join, sets-front}
 use Rattle.triangles.specs.Named.{byNumber, wordsFor, trianglesWord, TetSlotted}
 
 -- ── writing one behind the other ──
@@ -60,9 +60,7 @@ module _ (slots : List ℕ) (at : ℕ) (l : List ℕ) where
 
 pub written-front : (slots : List ℕ) (ts : List Tri) (l : List ℕ) → 3 * length ts ≤ length l → writtenTo slots ts 0 l ≡ over (wordsFor slots ts) l
 unfolding writtenTo
-written-front slots ts l h =
-    let w = wordsFor slots ts in
-    sets-eq w l 0 (omega (arith, words-length slots ts)) ∙ ap (λ (k : ℕ). w ++ drop k l) (zero-add (length w))
+written-front slots ts l h = sets-front l (wordsFor slots ts) (omega (arith, words-length slots ts))
 
 -- one triangle
 pub words-one : (slots : List ℕ) (t : Tri) → wordsFor slots (t ∷ []) ≡ corners3 (byNumber slots t)
@@ -72,10 +70,6 @@ words-one slots t = append-nil (corners3 (byNumber slots t))
 -- ── a row ──
 
 module _ (z : Sizes) (base t r : ℕ) where
-  pub row-length : length (rowTriangles z base t r) ≡ rowCount r
-  unfolding rowTriangles rowCount
-  row-length = length-map (getD rows r []) _
-
   -- the first j of a row
   pub firstOf : ℕ → List Tri
   firstOf j = take j (rowTriangles z base t r)
@@ -87,15 +81,15 @@ module _ (z : Sizes) (base t r : ℕ) where
   pub first-more : (j : ℕ) → j < rowCount r → firstOf j ++ (getD (rowTriangles z base t r) j (tri 0 0 0) ∷ []) ≡ firstOf (j + 1)
   unfolding firstOf
   first-more j h =
-      sym (ap (λ (n : ℕ). take n (rowTriangles z base t r)) (add-one j) ∙ take-suc (rowTriangles z base t r) j (tri 0 0 0) (omega (arith, row-length)))
+      sym (ap (λ (n : ℕ). take n (rowTriangles z base t r)) (add-one j) ∙ take-suc (rowTriangles z base t r) j (tri 0 0 0) (omega (arith, row-length z base t r)))
 
   pub first-length : (j : ℕ) → j ≤ rowCount r → length (firstOf j) ≡ j
   unfolding firstOf
-  first-length j h = length-take-le j (rowTriangles z base t r) (omega (arith, row-length))
+  first-length j h = length-take-le j (rowTriangles z base t r) (omega (arith, row-length z base t r))
 
   pub first-all : (j : ℕ) → rowCount r ≤ j → firstOf j ≡ rowTriangles z base t r
   unfolding firstOf
-  first-all j h = take-all j (rowTriangles z base t r) (omega (arith, row-length))
+  first-all j h = take-all j (rowTriangles z base t r) (omega (arith, row-length z base t r))
 
 -- the edges of a row's triangle have slots
 pub record Below (long : ℕ) (g : Tri) : Type 0 where
@@ -106,7 +100,7 @@ pub record Below (long : ℕ) (g : Tri) : Type 0 where
 pub row-below : (z : Sizes) (base t r j long : ℕ) → TetSlotted z base long → t < 6 → r < 16 → j < rowCount r
     → Below long (getD (rowTriangles z base t r) j (tri 0 0 0))
 row-below z base t r j long w ht hr hj =
-    let two : j < 2 = omega (arith, count-le r hr) in
+    let two : j < 2 = omega (arith, count-le r) in
     subst (Below long) (sym (row-triangle z base t r j hj))
     (record {
       a = w .below t (rowEdge r (3 * j)) ht (edge-six r (3 * j) hr (omega arith));
@@ -188,6 +182,6 @@ tet-slotted z s k h long l = record {
         arith,
         corner-no z p c,
         sample-lt z (corner p c) (corner-inside z p (cube-inside z s k h) c (low-lt t j ht hj)),
-        kind-lt t j ht hj,
+        kind-lt (tetEnds t j),
       );
 }

@@ -8,17 +8,18 @@ use native.Mathlib.Decide.{ℕ-discrete}
 use native.Mathlib.Numerals.{add-one}
 use native.Mathlib.Omega.{arith}
 use lib.IntN.{ℤ, pos, negsuc, natAbs}
-use lib.Dec.{T, eqb, ltb, eqb→eq, ltb→lt}
+use lib.Dec.{eqb, ltb, eqb→eq, ltb→lt}
 use lib.ListN.{length, getD, set, length-set}
 use lib.Seq.{getD-set-same, getD-set-other}
 use borrow.Author.Tests.{eq-eqb, ne-eqb, lt-ltb, le-ltb, ltb-true, eqb-true, eqb-false}
 use Rattle.lists.specs.Lists.{range, first}
 use Rattle.lists.proofs.Runs.{first-at, first-none}
-use Rattle.lists.proofs.Computed.{upto, upto-at}
+use Rattle.lists.proofs.Firsts.{first-holds}
+use Rattle.lists.proofs.Computed.{upto-at}
 use Rattle.paper.specs.declared.Sizes.{Sizes}
 use Rattle.paper.specs.declared.Place.{Place}
 use Rattle.paper.specs.Lattice.{place, sampleNo, cubes, cubeAt}
-use Rattle.paper.specs.Tables.{Tri, tri}
+use Rattle.paper.specs.Tables.{Tri}
 use Rattle.paper.specs.Check.{triangleOf}
 use Rattle.paper.specs.Within.{Sized}
 use Rattle.paper.proofs.Judged.{both}
@@ -28,7 +29,6 @@ use Rattle.sides.specs.Pattern.{bitOf}
 use Rattle.survey.specs.Marks.{baseOf}
 use Rattle.survey.proofs.Cubes.{first-cube}
 use Rattle.records.specs.Records.{edgeIn}
-use Rattle.records.proofs.Firsts.{first-holds}
 use Rattle.triples.specs.declared.Spot.{Spot}
 use Rattle.triples.specs.Triples.{holder, isAt, placeFrom, placeBy, placeIn, placeOf, Sure, Based, Found, fresh, noted, freshAt, notedAt, Small, seenAfter, badIn, firstBadIn}
 
@@ -81,10 +81,6 @@ module _ (z : Sizes) (base m : ℕ) (t : Tri) where
   pub from-holds : (i : ℕ) → placeFrom z base m t i < 12 → isAt z base m t (placeFrom z base m t i) ≡ true
   unfolding placeFrom
   from-holds i h = first-holds (isAt z base m t) 12 i (12 - i) h
-
-  pub from-start : placeFrom z base m t 0 ≡ placeBy z base m t
-  unfolding placeFrom placeBy
-  from-start = refl
 
 module _ (z : Sizes) (words : List ℕ) (k : ℕ) (t : Tri) where
   pub place-out : cubes z ≤ k → 12 ≡ placeIn z words k t

@@ -1,24 +1,25 @@
 -- A triangle that fails here is one that fails test 18. Assumes nothing.
 use mathlib.Core.Path.{_≡_, refl, sym, ap, subst, _∙_}
-use mathlib.Core.Bool.{Bool, true, false, cond, not, _&&_, _||_, or-false}
-use mathlib.Core.List.{List, [], _∷_, _++_, map}
+use mathlib.Core.Bool.{Bool, true, false, cond, not, _&&_, _||_}
+use mathlib.Core.List.{List}
 use Prim.Native.Nat.{ℕ, zero, suc, _+_, _*_, _/_, _%_, _^_, _≤_, _<_}
-use native.Mathlib.Nat.{zero-add, zero-div}
+use native.Mathlib.Nat.{zero-div}
 use native.Mathlib.Omega.{arith}
 use native.Mathlib.Decide.{ℕ-discrete}
 use lib.IntN.{ℤ}
 use lib.Dec.{T, eqb, ltb, eqb→eq, lt→ltb, ltb→lt}
-use lib.ListN.{length, getD, set, drop, length-map}
+use lib.ListN.{length, getD, set, drop}
 use lib.Seq.{getD-set-same, getD-set-other, drop-set-lt}
 use borrow.Author.Tests.{eq-eqb, ne-eqb, ltb-true, ltb-false, not-false}
-use Rattle.lists.specs.Lists.{range, any, each, isIn, first}
-use Rattle.lists.proofs.Member.{T→eq, eq→T, and-both, and-left, and-right, any-append, any-each, any-in, in-any, in-range, range-in}
+use Rattle.lists.specs.Lists.{range, any, isIn, first}
+use Rattle.lists.proofs.Member.{T→eq, eq→T, and-both, and-left, and-right, any-each, any-in, in-any, in-range, range-in}
 use Rattle.lists.proofs.Every.{any-at, at-any}
 use Rattle.lists.proofs.Closure.{bool-same}
-use Rattle.lists.proofs.Runs.{range-snoc, any-first}
+use Rattle.lists.proofs.Runs.{any-snoc, any-first}
+use Rattle.lists.proofs.Firsts.{first-agree, first-before, first-holds}
 use Rattle.paper.specs.declared.Sizes.{Sizes}
 use Rattle.paper.specs.Lattice.{Lattice, cubes, cubeNo, cubeAt, visited}
-use Rattle.paper.specs.Tables.{Tri, tri, rows}
+use Rattle.paper.specs.Tables.{Tri, tri}
 use Rattle.paper.specs.Sheet.{Sheet, sheetOf, cubeTriangles}
 use Rattle.paper.specs.Within.{Sized}
 use Rattle.paper.specs.Check.{turned, triangleOf, badNaming}
@@ -29,11 +30,10 @@ use Rattle.pairing.proofs.Turned.{is-turned, turned-is, back, along}
 use Rattle.sides.specs.Pattern.{bitOf, patternAt}
 use Rattle.sides.proofs.Laws.{pattern-lt}
 use Rattle.tetra.specs.Cut.{rowBy, rowCount, rowTriangles, trianglesBy}
-use Rattle.tetra.proofs.Tables.{count-le}
+use Rattle.tetra.proofs.Tables.{count-le, row-length}
 use Rattle.tetra.proofs.Laws.{cube-triangles-by}
 use Rattle.flood.specs.Flooded.{wordOf}
 use Rattle.survey.specs.Marks.{baseOf}
-use Rattle.records.proofs.Firsts.{first-agree, first-before, first-holds}
 use Rattle.triples.specs.Triples.{holder, isAt, placeBy, placeIn, placeOf, fresh, noted, seenAfter, badIn, firstBadIn}
 use Rattle.triples.proofs.Laws.{Fresh, is-fresh, bit-set, after-length, place-cube, place-out, place-idle, place-word}
 
@@ -49,14 +49,6 @@ turned-alike t u h g =
 
 -- ── the places of a cube hold its triangles ──
 
-row-lt : (m t : ℕ) → rowBy m t < 16
-unfolding rowBy bitOf
-row-lt m t = omega arith
-
-row-long : (z : Sizes) (base t r : ℕ) → length (rowTriangles z base t r) ≡ rowCount r
-unfolding rowTriangles rowCount
-row-long z base t r = length-map (getD rows r []) _
-
 -- what stands at a place is one of its row's triangles
 pub at-row : (z : Sizes) (base m : ℕ) (t : Tri) (c : ℕ) → isAt z base m t c ≡ true
     → let l = rowTriangles z base (c / 2) (rowBy m (c / 2)) in (c % 2 < length l) × T (turned t (getD l (c % 2) (tri 0 0 0)))
@@ -66,7 +58,7 @@ at-row z base m t c e =
     let a = ltb (c % 2) (rowCount r) in
     let b = turned t (getD (rowTriangles z base (c / 2) r) (c % 2) (tri 0 0 0)) in
     let w : T (a && b) = eq→T e in
-    (omega (arith, ltb→lt (c % 2) (rowCount r) (and-left a b w), row-long z base (c / 2) r), and-right a b w)
+    (omega (arith, ltb→lt (c % 2) (rowCount r) (and-left a b w), row-length z base (c / 2) r), and-right a b w)
 
 module _ (z : Sizes) (base m : ℕ) (t : Tri) where
   part : ℕ → List Tri
@@ -90,9 +82,9 @@ module _ (z : Sizes) (base m : ℕ) (t : Tri) where
       let b : k < 6 = omega (arith, range-in 0 6 k (w .1 .0)) in
       let v = any-at (turned t) (part k) (tri 0 0 0) (w .1 .1) in
       let j = v .0 in
-      let l : j < rowCount (rowBy m k) = omega (arith, v .1, row-long z base k (rowBy m k)) in
+      let l : j < rowCount (rowBy m k) = omega (arith, v .1, row-length z base k (rowBy m k)) in
       let c = 2 * k + j in
-      let s : j < 2 = omega (arith, count-le (rowBy m k) (row-lt m k)) in
+      let s : j < 2 = omega (arith, count-le (rowBy m k)) in
       let d : c / 2 ≡ k = omega arith in
       let r : c % 2 ≡ j = omega arith in
       in-any (isAt z base m t) (range 0 12) c (in-range 0 12 c (omega arith) (omega arith))
@@ -174,11 +166,6 @@ module _ (z : Sizes) (words : List ℕ) (t u : Tri) (ht : placeOf z words t < 12
 
 -- ── the bits tell which places have been seen ──
 
-any-more : (p : ℕ → Bool) (i : ℕ) → any p (range 0 (suc i)) ≡ (any p (range 0 i) || p i)
-any-more p i =
-    ap (any p) (range-snoc 0 i ∙ ap (λ (k : ℕ). range 0 i ++ k ∷ []) (zero-add i))
-    ∙ (any-append p (range 0 i) (i ∷ []) ∙ ap (λ (b : Bool). any p (range 0 i) || b) (or-false (p i)))
-
 any-below : (p q : ℕ → Bool) (n : ℕ) → ((j : ℕ) → j < n → p j ≡ q j) → any p (range 0 n) ≡ any q (range 0 n)
 any-below p q n h =
     bool-same (any p (range 0 n)) (any q (range 0 n))
@@ -233,7 +220,7 @@ module _ (z : Sizes) (words : List ℕ) (vs : List ℤ) (ts seen : List ℕ) (lo
       unfold bitOf in
       (bit-more k c i (good i (g i (omega arith)))
       ∙ (ap (λ (v : ℕ). cond (hits k c i) 1 v) (bits k c i l (λ j h. g j (omega arith)))
-      ∙ (join (hits k c i) (any (hits k c) (range 0 i)) ∙ ap (λ (b : Bool). cond b 1 0) (sym (any-more (hits k c) i)))))
+      ∙ (join (hits k c i) (any (hits k c) (range 0 i)) ∙ ap (λ (b : Bool). cond b 1 0) (sym (any-snoc (hits k c) i)))))
     where
       join : (a b : Bool) → _≡_ {A = ℕ} (cond a 1 (cond b 1 0)) (cond (b || a) 1 0)
       join true true = refl

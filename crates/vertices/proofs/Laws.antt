@@ -7,9 +7,9 @@ use native.Mathlib.Omega.{arith}
 use native.Mathlib.Nat.{zero-add, add-zero}
 use lib.Dec.{T}
 use lib.IntN.{ℤ}
-use lib.ListN.{length, getD, drop, length-append}
+use lib.ListN.{length, getD, length-append}
 use Rattle.lists.proofs.Member.{eq→T}
-use lib.Seq.{sets, sets-eq, length-sets}
+use lib.Seq.{sets, length-sets}
 use borrow.Author.Tests.{eq-eqb, ne-eqb}
 use Rattle.lists.specs.Lists.{range, consIf, keep, each, over}
 use Rattle.lists.proofs.Every.{each-length}
@@ -23,7 +23,7 @@ use Rattle.paper.proofs.Listing.{record-length}
 use Rattle.paper.proofs.Numbers.{sample-place, sample-inside, sample-back}
 use Rattle.crossing.specs.Vertex.{Crosses}
 use Rattle.survey.specs.Marks.{used}
-use Rattle.survey.proofs.Stores.{sets-join}
+use Rattle.lists.proofs.Stores.{sets-join, sets-front}
 use Rattle.measure.specs.Crossed.{AllCross}
 use Rattle.vertices.specs.Records.{usedFrom, recordsFrom, AnchorCrosses}
 
@@ -79,8 +79,7 @@ pub written-front : (L : Lattice) (slots : List ℕ) (n : ℕ) (l : List ℤ) �
     → writtenTo L slots 0 n 0 l ≡ over (recordsFrom L slots 0 n) l
 unfolding writtenTo
 written-front L slots n l h =
-    let r = recordsFrom L slots 0 n in
-    sets-eq r l 0 (omega (arith, records-length L slots 0 n)) ∙ ap (λ (k : ℕ). r ++ drop k l) (zero-add (length r))
+    sets-front l (recordsFrom L slots 0 n) (omega (arith, records-length L slots 0 n))
 
 -- ── one slot ──
 

@@ -1,12 +1,11 @@
 -- `codec::bits_of` meets its contract: with 2 ^ 32 added the number is not negative, and its remainder is the bits. Assumes nothing.
 use mathlib.Core.Path.{_≡_}
-use Prim.Native.Nat.{_-_}
 use native.Mathlib.Omega.{arith}
 use lib.IntN.{pos, _+ℤ_}
 use mir.Syntax.{w32, w64}
 use mir.Val.{toZ, ofZ}
 use mir.Facts.{toZ-pos}
-use Rattle.codec.proofs.Ints.{widens, widened}
+use Rattle.paper.proofs.Ints.{widens, widened}
 use Rattle.codec.proofs.Signed.{raised, raised-is, raised-small, raised-bits}
 use borrow.Author.Needs.{needs}
 use Rattle.codec.proofs.bits_of.Statement.{statement}

@@ -2,7 +2,7 @@
 use denote.Ref.{now}
 use native.Mathlib.Omega.{arith}
 use lib.ListN.{length-set}
-use Rattle.codec.proofs.Runs.{sets2}
+use Rattle.lists.proofs.Stores.{sets2}
 use borrow.Author.Needs.{needs}
 use Rattle.codec.proofs.put_u16.Statement.{statement}
 use Rattle.codec.proofs.put_u16.Tie as tie

@@ -2,7 +2,7 @@
 use denote.Ref.{now}
 use native.Mathlib.Omega.{arith}
 use lib.ListN.{length-set}
-use Rattle.codec.proofs.Runs.{sets4}
+use Rattle.lists.proofs.Stores.{sets4}
 use borrow.Author.Needs.{needs}
 use Rattle.codec.proofs.put_u32.Statement.{statement}
 use Rattle.codec.proofs.put_u32.Tie as tie

@@ -6,7 +6,7 @@ use lib.IntN.{pos, negsuc, _-ℤ_}
 use mir.Syntax.{w32, w64}
 use mir.Val.{SFits, toZ}
 use mir.Facts.{toZ-pos, toZ-ofZ}
-use Rattle.codec.proofs.Ints.{sub-neg}
+use Rattle.paper.proofs.Ints.{sub-neg}
 use Rattle.codec.proofs.Signed.{signed-low, signed-high}
 use borrow.Author.Needs.{needs}
 use Rattle.codec.proofs.signed_of.Statement.{statement}

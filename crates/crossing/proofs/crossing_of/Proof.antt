@@ -1,15 +1,19 @@
 -- Both signed numbers are at least 0, so the division is one of naturals. Assumes nothing.
 use mathlib.Core.Path.{_≡_, refl, ap}
-use Prim.Native.Nat.{ℕ, _+_}
+use Prim.Native.Nat.{ℕ, _+_, _≤_}
 use native.Mathlib.Omega.{arith}
-use lib.IntN.{pos, natAbs, _-ℤ_}
+use lib.IntN.{ℤ, pos, natAbs, _-ℤ_}
+use lib.Signed.{natAbs-le}
 use mir.Syntax.{w16, w32}
-use mir.Val.{toZ, ofZ}
+use mir.Val.{SFits, toZ, ofZ}
 use mir.Facts.{toZ-pos}
-use Rattle.crossing.proofs.Ints.{widens, widened}
-use Rattle.crossing.proofs.Laws.{solid-neg, difference, size, air-pos, crossing-nat, crossing-range}
+use Rattle.paper.proofs.Ints.{widens, widened}
+use Rattle.paper.proofs.Crossing.{solid-neg, air-pos, difference, crossing-nat, at-most-65534}
 use Rattle.crossing.proofs.crossing_of.Statement.{statement}
 use Rattle.crossing.proofs.crossing_of.Tie as tie
+
+size : {z : ℤ} → SFits w16 z → natAbs z ≤ 32768
+size {z} f = natAbs-le z (f .sfits)
 
 abbrev a : tie.Start → ℕ
 a c = natAbs (c .args .p)
@@ -60,7 +64,7 @@ div-result c = rw (d-read c) (omega (arith, air-pos (c .args .q) (c .pre .1)))
 returns : tie.Need-returns
 returns c =
     let e = crossing-nat (c .args .p) (c .args .q) (c .pre .0) (c .pre .1) in
-    rw (n-read c, d-read c, ← e) (refl, crossing-range (c .args .p) (c .args .q) (c .fits .p) (c .pre .0) (c .pre .1))
+    rw (n-read c, d-read c, ← e) (refl, at-most-65534 (c .args .p) (c .args .q) (c .pre .0) (c .pre .1) (c .fits .p .sfits))
 
 pub crossing-of-spec : {M : Type 1} → statement M
 crossing-of-spec =

@@ -1,7 +1,7 @@
 -- Axis by axis. Assumes nothing.
 use borrow.Author.Needs.{needs}
 use borrow.Author.Tests.{not-true, not-false}
-use mathlib.Core.Path.{_≡_, sym, _∙_}
+use mathlib.Core.Path.{sym, _∙_}
 use Rattle.paper.specs.Lattice.{axes}
 use Rattle.lattice.proofs.axes_pass.Statement.{statement}
 use Rattle.lattice.proofs.axes_pass.Tie as tie

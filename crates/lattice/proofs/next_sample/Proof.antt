@@ -1,34 +1,16 @@
--- The next place on the axis that does not end. Assumes nothing.
-use native.Mathlib.Omega.{arith}
-use Rattle.lattice.proofs.Laws.{sample-right, sample-up, sample-far}
+-- Rows and layers of samples. Assumes nothing.
+use Rattle.paper.specs.Lattice.{sampleNo, sampleAt}
+use Rattle.lattice.specs.Steps.{nextIn}
 use borrow.Author.Needs.{needs}
 use Rattle.lattice.proofs.next_sample.Statement.{statement}
 use Rattle.lattice.proofs.next_sample.Tie as tie
 
-add-if1 : tie.Need-add-if1
-add-if1 c = search needs
-
-add-t5 : tie.Need-add-t5
-add-t5 c = search needs
+next-in-requires : tie.Need-next-in-requires
+next-in-requires c κs = search needs
 
 returns : tie.Need-returns
-returns c = sample-right _ (c .before .before .before .before .pre .0) _ (c .before .before .before .before .pre .1) (c .before .if1 .taken)
-
-add-if2 : tie.Need-add-if2
-add-if2 c = search needs
-
-add-t6 : tie.Need-add-t6
-add-t6 c = search needs
-
-returns-2 : tie.Need-returns-2
-returns-2 c = sample-up _ (c .before .before .before .before .before .before .before .pre .0) _ (c .before .before .before .before .before .before .before .pre .1) (λ h. omega (arith, c .before .before .before .before .if1 .left)) (c .before .if2 .taken)
-
-add-t3 : tie.Need-add-t3
-add-t3 c = search needs
-
-returns-3 : tie.Need-returns-3
-returns-3 c = sample-far _ (c .before .before .before .before .before .before .before .pre .0) _ (c .before .before .before .before .before .before .before .pre .1) (λ h. omega (arith, c .before .before .before .before .if1 .left)) (λ h. omega (arith, c .before .if2 .left))
+unfolding nextIn sampleNo sampleAt
+returns c = c .next-in .ensures
 
 pub next-sample-spec : {M : Type 1} → statement M
-next-sample-spec =
-    tie.close (tie.spec add-if1 add-t5 returns add-if2 add-t6 returns-2 add-t3 returns-3)
+next-sample-spec = tie.close (tie.spec next-in-requires returns)

@@ -6,7 +6,7 @@ use lib.IntN.{pos, negsuc, _-ℤ_}
 use mir.Syntax.{w16, w32}
 use mir.Val.{SFits, toZ}
 use mir.Facts.{toZ-pos, toZ-ofZ}
-use Rattle.codec.proofs.Ints.{sub-neg}
+use Rattle.paper.proofs.Ints.{sub-neg}
 use Rattle.lister.proofs.Signed.{signed-low, signed-high}
 use borrow.Author.Needs.{needs}
 use Rattle.lister.proofs.signed_of.Statement.{statement}

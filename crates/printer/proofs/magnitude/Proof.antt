@@ -10,7 +10,7 @@ use lib.Signed.{ltZ, natAbs-le}
 use mir.Syntax.{w32, w64}
 use mir.Val.{SFits, toZ, ofZ}
 use mir.Facts.{toZ-pos, toZ-ofZ}
-use Rattle.codec.proofs.Ints.{widens, widened}
+use Rattle.paper.proofs.Ints.{widens, widened}
 use Rattle.printer.proofs.magnitude.Statement.{statement}
 use Rattle.printer.proofs.magnitude.Tie as tie
 

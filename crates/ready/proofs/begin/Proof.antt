@@ -1,17 +1,14 @@
 -- Test by test. Assumes nothing.
 use borrow.Author.Needs.{needs}
 use borrow.Author.Tests.{not-true, not-false, eq-eqb, ne-eqb}
-use mathlib.Core.Path.{_≡_, refl, sym, ap, subst, _∙_}
-use mathlib.Core.Bool.{Bool, true, _&&_}
-use Prim.Native.Nat.{ℕ, _*_, _≤_, _<_}
+use mathlib.Core.Path.{sym, _∙_}
+use Prim.Native.Nat.{ℕ, _*_, _≤_}
 use native.Mathlib.Omega.{arith}
 use lib.Dec.{T, leb, leb→le}
-use lib.ListN.{length}
-use denote.Ref.{now}
 use Rattle.lists.proofs.Member.{eq→T, and3}
 use Rattle.paper.specs.declared.Sizes.{Sizes}
-use Rattle.paper.specs.Lattice.{Lattice, lattice, samples, cubes}
-use Rattle.paper.specs.Within.{Sized, Full}
+use Rattle.paper.specs.Lattice.{samples, cubes}
+use Rattle.paper.specs.Within.{Sized}
 use Rattle.paper.specs.Build.{roomy, sampleTests}
 use Rattle.paper.proofs.Visits.{sized}
 use Rattle.ready.proofs.begin.Statement.{statement}

@@ -1,10 +1,10 @@
 -- By the way the start is given. Assumes nothing.
 use borrow.Author.Needs.{needs}
-use mathlib.Core.Path.{_≡_, sym, subst}
+use mathlib.Core.Path.{sym, subst}
 use denote.Ref.{now}
 use Rattle.paper.specs.Lattice.{lattice}
 use Rattle.paper.specs.declared.Start.{Start}
-use Rattle.ready.specs.Ready.{Chosen, NamedChosen, LowestChosen}
+use Rattle.ready.specs.Ready.{Chosen}
 use Rattle.ready.proofs.choose.Statement.{statement}
 use Rattle.ready.proofs.choose.Tie as tie
 

@@ -1,10 +1,6 @@
 -- Slice by slice. Assumes nothing.
 use borrow.Author.Needs.{needs}
 use borrow.Author.Tests.{lt-leb, le-leb}
-use mathlib.Core.Path.{_≡_, sym, ap, _∙_}
-use mathlib.Core.Bool.{Bool}
-use Prim.Native.Nat.{ℕ, _*_}
-use lib.Dec.{leb}
 use Rattle.paper.specs.Build.{roomy}
 use Rattle.ready.proofs.has_room.Statement.{statement}
 use Rattle.ready.proofs.has_room.Tie as tie

@@ -1,11 +1,9 @@
 -- Test 4, then test 5. Assumes nothing.
 use borrow.Author.Needs.{needs}
 use borrow.Author.Tests.{not-true, not-false}
-use mathlib.Core.Path.{_≡_, refl, sym, ap, _∙_}
-use mathlib.Core.Bool.{Bool}
+use mathlib.Core.Path.{sym, _∙_}
 use native.Mathlib.Omega.{arith}
 use Rattle.lists.proofs.Member.{eq→T}
-use Rattle.paper.specs.Lattice.{cubeNo}
 use Rattle.paper.proofs.Visits.{in-lattice}
 use Rattle.ready.proofs.named_cube.Statement.{statement}
 use Rattle.ready.proofs.named_cube.Tie as tie

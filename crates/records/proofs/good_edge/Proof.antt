@@ -1,6 +1,6 @@
 -- No edge, an idle slot, another record, or the edge. Assumes nothing.
 use mathlib.Core.Path.{_≡_, sym, ap, subst, _∙_}
-use mathlib.Core.Bool.{true, false, not}
+use mathlib.Core.Bool.{not}
 use mir.Syntax.{w32}
 use mir.Facts.{toZ-ofZ}
 use mathlib.Core.List.{List}

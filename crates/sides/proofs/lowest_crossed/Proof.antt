@@ -1,13 +1,15 @@
 -- The counter is the number of the cube at x, y, z, and no cube below it is crossed. Assumes nothing.
 use mathlib.Core.Path.{_≡_, sym, _∙_}
+use mathlib.Core.Bool.{false}
 use Prim.Native.Nat.{ℕ, _+_, _-_, _*_, _≤_, _<_}
 use native.Mathlib.Omega.{arith}
+use borrow.Author.Count.{below-more}
 use denote.Ref.{now}
-use Rattle.paper.specs.Lattice.{Lattice, lattice, place, cubes, cubeNo}
+use Rattle.paper.specs.Lattice.{Lattice, lattice, place, crossed, cubes, cubeNo}
 use Rattle.paper.specs.Within.{CubeIn}
 use Rattle.paper.proofs.Numbers.{cube-lt}
 use Rattle.lattice.proofs.Laws.{cubes-few}
-use Rattle.sides.proofs.Search.{Clear, clear-more, none, found, at, next, full}
+use Rattle.sides.proofs.Search.{Clear, none, found, at, next, full}
 use Rattle.sides.proofs.lowest_crossed.Statement.{statement}
 use Rattle.sides.proofs.lowest_crossed.Tie as tie
 
@@ -89,7 +91,7 @@ loop2-again c =
     let u = c .before .before in (
       omega arith,
       omega arith,
-      clear-more (L u) (c .before .before .before .loop2 .k) (c .before .before .before .loop2 .inv .2)
+      below-more (λ (j : ℕ). crossed (L u) j ≡ false) (c .before .before .before .loop2 .k) (c .before .before .before .loop2 .inv .2)
           (at (L u) (c .before .before .before .loop2 .k) (x u) (y u) (z u) (c .before .before .before .loop2 .inv .1) ∙ (sym (c .before .crossed-at .ensures) ∙ c .if1 .left)),
     )
 

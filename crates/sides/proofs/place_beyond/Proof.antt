@@ -1,8 +1,7 @@
 -- The place of the definition's face, face by face. Assumes nothing.
 use mathlib.Core.Path.{refl}
 use Rattle.lists.proofs.Computed.{sixth}
-use Rattle.paper.specs.Lattice.{faces}
-use Rattle.sides.specs.Pattern.{faceAt}
+use Rattle.paper.specs.Lattice.{faces, faceAt}
 use Rattle.sides.proofs.Laws.{beyond-is, below-is, beside-0, beside-2, beside-4}
 use borrow.Author.Needs.{needs}
 use Rattle.sides.proofs.place_beyond.Statement.{statement}

@@ -5,7 +5,7 @@ use Prim.Native.Nat.{ℕ, _+_, _-_, _*_, _≤_, _<_}
 use native.Mathlib.Omega.{arith}
 use lib.ListN.{length}
 use denote.Ref.{now}
-use Rattle.paper.specs.Lattice.{place, samples, cubes, cubeAt}
+use Rattle.paper.specs.Lattice.{samples, cubes, cubeAt}
 use Rattle.paper.specs.Within.{CubeIn}
 use Rattle.lattice.proofs.Laws.{samples-few, low-in}
 use Rattle.survey.specs.Marks.{marks, edgesUpto, trianglesUpto, baseOf, Slotted}

@@ -1,6 +1,6 @@
 -- One mark, or none. Assumes nothing.
 use borrow.Author.Needs.{needs}
-use mathlib.Core.Path.{_≡_, refl, sym, ap}
+use mathlib.Core.Path.{sym, ap}
 use mathlib.Core.Bool.{Bool}
 use mathlib.Core.List.{[]}
 use denote.Ref.{now}

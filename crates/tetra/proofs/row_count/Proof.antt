@@ -17,7 +17,7 @@ unfolding digitOf rowCount rows
 returns c =
     let r = c .before .args .r in
     let e = digit-is _ 16 rowCount _ r (c .digit .ensures .0) (c .before .pre) tt in
-    (e, omega (arith, e, count-le r (c .before .pre)))
+    (e, omega (arith, e, count-le r))
 
 pub row-count-spec : {M : Type 1} → statement M
 row-count-spec = tie.close (tie.spec digit-requires returns)

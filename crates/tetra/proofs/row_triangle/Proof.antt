@@ -15,7 +15,7 @@ use Rattle.tetra.proofs.row_triangle.Tie as tie
 module _ (s : tie.Start) where
   -- the triangle is one of two
   two : s .args .j < 2
-  two = omega (arith, s .pre .4, count-le (s .args .r) (s .pre .3))
+  two = omega (arith, s .pre .4, count-le (s .args .r))
 
   -- the step at an edge of the row
   at : (i k : ℕ) → i ≡ 96 * s .args .t + (6 * s .args .r + k) → k < 6 → getD (now (s .args .steps)) i 0 ≡ tetStep (s .args .sizes) (s .args .t) (rowEdge (s .args .r) k)

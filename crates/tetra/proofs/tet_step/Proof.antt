@@ -3,9 +3,10 @@ use borrow.Author.Needs.{needs}
 use mathlib.Core.Path.{ap, _∙_}
 use Prim.Native.Nat.{_+_, _*_}
 use native.Mathlib.Omega.{arith}
+use Rattle.paper.proofs.Tables.{kind-lt}
 use Rattle.lattice.specs.Steps.{cornerStep}
-use Rattle.tetra.specs.Cut.{edgeStep, tetStep}
-use Rattle.tetra.proofs.Tables.{lowTable, kindTable, low-is, kind-is, low-lt, kind-lt}
+use Rattle.tetra.specs.Cut.{tetEnds, edgeStep, tetStep}
+use Rattle.tetra.proofs.Tables.{lowTable, kindTable, low-is, kind-is, low-lt}
 use Rattle.tetra.proofs.tet_step.Statement.{statement}
 use Rattle.tetra.proofs.tet_step.Tie as tie
 
@@ -46,7 +47,7 @@ add-result : tie.Need-add-result
 unfolding kindTable
 add-result c =
     let p = c .before .before .before .pre in
-    omega (arith, c .before .corner-step .ensures, kind-is (c .before .before .before .args .t) (c .before .before .before .args .j) (p .1) (p .2), kind-lt (c .before .before .before .args .t) (c .before .before .before .args .j) (p .1) (p .2))
+    omega (arith, c .before .corner-step .ensures, kind-is (c .before .before .before .args .t) (c .before .before .before .args .j) (p .1) (p .2), kind-lt (tetEnds (c .before .before .before .args .t) (c .before .before .before .args .j)))
 
 returns : tie.Need-returns
 unfolding lowTable kindTable tetStep edgeStep
@@ -55,7 +56,7 @@ returns c =
     let p = s .pre in
     let a = c .before .corner-step .ensures .0 ∙ ap (cornerStep (s .args .sizes)) (low-is (s .args .t) (s .args .j) (p .1) (p .2)) in
     let b = kind-is (s .args .t) (s .args .j) (p .1) (p .2) in
-    (λ i. 7 * a i + b i, omega (arith, c .before .corner-step .ensures .1, b, kind-lt (s .args .t) (s .args .j) (p .1) (p .2)))
+    (λ i. 7 * a i + b i, omega (arith, c .before .corner-step .ensures .1, b, kind-lt (tetEnds (s .args .t) (s .args .j))))
 
 pub tet-step-spec : {M : Type 1} → statement M
 tet-step-spec =

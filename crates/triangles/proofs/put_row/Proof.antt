@@ -1,7 +1,7 @@
 -- After j triangles the first j of the row are written. Assumes nothing.
 use borrow.Author.Needs.{needs}
-use mathlib.Core.Path.{_≡_, refl, sym, ap, subst, _∙_}
-use mathlib.Core.List.{List, [], _∷_, _++_}
+use mathlib.Core.Path.{_≡_, sym, ap, subst, _∙_}
+use mathlib.Core.List.{List, [], _∷_}
 use Prim.Native.Nat.{ℕ, _+_, _-_, _*_, _≤_, _<_}
 use native.Mathlib.Omega.{arith}
 use lib.ListN.{length, getD}
@@ -9,9 +9,10 @@ use lib.Seq.{sets}
 use denote.Ref.{now}
 use Rattle.paper.specs.Tables.{Tri, tri}
 use Rattle.paper.specs.Sheet.{corners3}
-use Rattle.tetra.specs.Cut.{triOf, rowCount, rowTriangles}
-use Rattle.triangles.specs.Named.{byNumber, wordsFor}
-use Rattle.triangles.proofs.Laws.{writtenTo, written-none, written-more, written-length, words-one, row-length, firstOf, first-none, first-more, first-length, first-all, Below, row-below}
+use Rattle.tetra.specs.Cut.{rowCount, rowTriangles}
+use Rattle.triangles.specs.Named.{byNumber}
+use Rattle.tetra.proofs.Tables.{row-length}
+use Rattle.triangles.proofs.Laws.{writtenTo, written-none, written-more, written-length, words-one, firstOf, first-none, first-more, first-length, first-all, Below, row-below}
 use Rattle.triangles.proofs.put_row.Statement.{statement}
 use Rattle.triangles.proofs.put_row.Tie as tie
 

@@ -1,9 +1,9 @@
 -- Three stores one behind the other. Assumes nothing.
 use borrow.Author.Needs.{needs}
-use mathlib.Core.Path.{_≡_, refl, sym, ap, _∙_}
-use Prim.Native.Nat.{ℕ, _+_, _-_, _*_, _≤_, _<_}
+use mathlib.Core.Path.{_∙_}
+use Prim.Native.Nat.{_+_, _*_}
 use native.Mathlib.Omega.{arith}
-use lib.ListN.{length, getD, set, length-set}
+use lib.ListN.{set, length-set}
 use denote.Ref.{now}
 use Rattle.lists.proofs.Stores.{sets3}
 use Rattle.triangles.specs.Named.{numberOf}

@@ -8,7 +8,7 @@ use native.Mathlib.Nat.{zero-add}
 use lib.ListN.{length, getD, length-append}
 use lib.Seq.{sets}
 use denote.Ref.{now}
-use Rattle.paper.specs.Lattice.{place, samples, cubes, cubeAt}
+use Rattle.paper.specs.Lattice.{samples, cubes, cubeAt}
 use Rattle.paper.specs.Tables.{Tri}
 use Rattle.paper.specs.Within.{CubeIn}
 use Rattle.lattice.proofs.Laws.{samples-few, low-in}

@@ -1,10 +1,9 @@
 -- A triangle past the row's last is none; else the two are compared. Assumes nothing.
 use mathlib.Core.Path.{_≡_, sym, ap, subst, _∙_}
 use Prim.Native.Nat.{ℕ, _/_, _%_, _≤_, _<_}
-use lib.Dec.{ltb}
 use lib.ListN.{getD}
 use borrow.Author.Tests.{lt-ltb, le-ltb}
-use Rattle.paper.specs.Tables.{Tri, tri}
+use Rattle.paper.specs.Tables.{tri}
 use Rattle.paper.specs.Check.{turned}
 use Rattle.tetra.specs.Cut.{rowBy, rowCount, rowTriangles, triOf}
 use Rattle.triples.specs.Triples.{isAt}

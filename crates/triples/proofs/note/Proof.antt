@@ -1,6 +1,6 @@
 -- No place, a bit that is 1, or a bit that becomes 1. Assumes nothing.
-use mathlib.Core.Path.{_≡_, refl, sym, ap, _∙_}
-use Prim.Native.Nat.{ℕ, _+_}
+use mathlib.Core.Path.{refl, sym, _∙_}
+use Prim.Native.Nat.{_+_}
 use lib.ListN.{getD, set}
 use denote.Ref.{now}
 use borrow.Author.Needs.{needs}

@@ -1,6 +1,6 @@
 -- The search from c on finds what the search from the start finds. Assumes nothing.
 use mathlib.Core.Path.{_≡_, refl, sym, _∙_}
-use Prim.Native.Nat.{ℕ, _-_, _≤_, _<_}
+use Prim.Native.Nat.{_-_, _≤_}
 use native.Mathlib.Omega.{arith}
 use Rattle.tetra.specs.Cut.{triOf}
 use Rattle.triples.specs.Triples.{placeFrom}

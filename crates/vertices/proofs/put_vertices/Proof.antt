@@ -1,16 +1,14 @@
 -- After i anchors their records are written; p is the place of sample i. Assumes nothing.
 use borrow.Author.Needs.{needs}
-use mathlib.Core.Path.{_≡_, refl, sym, ap, subst, _∙_}
-use mathlib.Core.List.{List}
+use mathlib.Core.Path.{_≡_, refl, sym, ap, _∙_}
 use Prim.Native.Nat.{ℕ, _+_, _-_, _*_, _≤_, _<_}
 use native.Mathlib.Omega.{arith}
 use native.Mathlib.Nat.{zero-add}
-use lib.IntN.{ℤ}
 use lib.ListN.{length}
 use lib.Seq.{sets}
 use denote.Ref.{now}
-use Rattle.paper.specs.Lattice.{Lattice, lattice, place, samples, sampleNo, sampleAt}
-use Rattle.vertices.specs.Records.{usedFrom, recordsFrom, AnchorCrosses}
+use Rattle.paper.specs.Lattice.{Lattice, lattice, samples, sampleAt}
+use Rattle.vertices.specs.Records.{usedFrom, recordsFrom}
 use Rattle.vertices.proofs.Laws.{used-count, writtenTo, written-none, written-more, written-length, written-front, first-sample, anchor-in, anchor-no, anchor-crosses, anchor-next}
 use Rattle.vertices.proofs.put_vertices.Statement.{statement}
 use Rattle.vertices.proofs.put_vertices.Tie as tie

@@ -1,6 +1,6 @@
 -- `worked::say_sample` is safe and ends: a sample fits a wider type. Assumes nothing.
 use mir.Syntax.{w32}
-use Rattle.codec.proofs.Ints.{widens}
+use Rattle.paper.proofs.Ints.{widens}
 use borrow.Author.Needs.{needs}
 use Rattle.worked.proofs.say_sample.Statement.{statement}
 use Rattle.worked.proofs.say_sample.Tie as tie

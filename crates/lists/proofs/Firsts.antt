@@ -1,33 +1,23 @@
 -- The first that passes: what comes before it, that it passes, and when two tests have the same first. Assumes nothing.
-use mathlib.Core.Path.{_≡_, refl, sym, ap, subst, _∙_}
+use mathlib.Core.Path.{_≡_, refl, ap, _∙_}
 use mathlib.Core.Bool.{Bool, true, false, cond}
 use Prim.Native.Nat.{ℕ, zero, suc, _+_, _<_}
 use native.Mathlib.Omega.{arith}
 use native.Mathlib.Nat.{zero-add}
-use lib.Arith.{lt-of-le-ne}
-use lib.Dec.{eqb}
-use borrow.Author.Tests.{eqb-true, eqb-false}
+use borrow.Author.Count.{below-none, below-more}
 use Rattle.lists.specs.Lists.{range, first}
-
--- what is below k and k, below k + 1
-pub more : (P : ℕ → Type 0) (i : ℕ) → ((k : ℕ) → k < i → P k) → P i → (k : ℕ) → k < suc i → P k
-more P i f p k h = go (eqb k i) refl
-  where
-    go : (b : Bool) → eqb k i ≡ b → P k
-    go true e = subst P (sym (eqb-true k i e)) p
-    go false e = f k (lt-of-le-ne (omega arith) (eqb-false k i e))
 
 -- what comes before it does not pass
 before-from : (p : ℕ → Bool) (d i n : ℕ) → i + n ≡ d → ((k : ℕ) → k < i → p k ≡ false) → (k : ℕ) → k < first p d (range i n) → p k ≡ false
 before-from p d i zero e f k h = f k (omega arith)
-before-from p d i (suc n) e f k h = go (p i) refl h (λ q g. before-from p d (suc i) n (omega arith) (more (λ k. p k ≡ false) i f q) k g)
+before-from p d i (suc n) e f k h = go (p i) refl h (λ q g. before-from p d (suc i) n (omega arith) (λ k l. below-more (λ k. p k ≡ false) i f q k (omega arith)) k g)
   where
     go : (b : Bool) → p i ≡ b → k < cond b i (first p d (range (suc i) n)) → (p i ≡ false → k < first p d (range (suc i) n) → p k ≡ false) → p k ≡ false
     go true q h r = f k h
     go false q h r = r q h
 
 pub first-before : (p : ℕ → Bool) (n k : ℕ) → k < first p n (range 0 n) → p k ≡ false
-first-before p n k h = before-from p n 0 n (omega arith) (λ k h. absurd (omega arith)) k h
+first-before p n k h = before-from p n 0 n (omega arith) (below-none (λ k. p k ≡ false)) k h
 
 -- where it is one of the run, it passes
 pub first-holds : (p : ℕ → Bool) (d i n : ℕ) → first p d (range i n) < d → p (first p d (range i n)) ≡ true
@@ -44,7 +34,7 @@ agree-from : (p q : ℕ → Bool) (d i n : ℕ) → i + n ≡ d → ((j : ℕ) �
     → first p d (range i n) ≡ first q d (range i n)
 agree-from p q d i zero e f h = refl
 agree-from p q d i (suc n) e f h =
-    ap (λ (b : Bool). cond b i (first p d (range (suc i) n))) (f i (omega arith) h) ∙ go (q i) (λ g. agree-from p q d (suc i) n (omega arith) f (more (λ k. p k ≡ false) i h (f i (omega arith) h ∙ g))) refl
+    ap (λ (b : Bool). cond b i (first p d (range (suc i) n))) (f i (omega arith) h) ∙ go (q i) (λ g. agree-from p q d (suc i) n (omega arith) f (λ k l. below-more (λ k. p k ≡ false) i h (f i (omega arith) h ∙ g) k (omega arith))) refl
   where
     go : (b : Bool) → (q i ≡ false → first p d (range (suc i) n) ≡ first q d (range (suc i) n)) → q i ≡ b
         → cond b i (first p d (range (suc i) n)) ≡ cond b i (first q d (range (suc i) n))
@@ -53,4 +43,4 @@ agree-from p q d i (suc n) e f h =
 
 pub first-agree : (p q : ℕ → Bool) (n : ℕ) → ((j : ℕ) → j < n → ((k : ℕ) → k < j → p k ≡ false) → p j ≡ q j)
     → first p n (range 0 n) ≡ first q n (range 0 n)
-first-agree p q n f = agree-from p q n 0 n (zero-add n) f (λ k h. absurd (omega arith))
+first-agree p q n f = agree-from p q n 0 n (zero-add n) f (below-none (λ k. p k ≡ false))
