@@ -8,17 +8,17 @@ use native.Mathlib.Decide.{ℕ-discrete, decLt}
 use lib.IntN.{ℤ, pos}
 use lib.Dec.{T, eqb, eqb-refl}
 use lib.ListN.{length}
-use Rattle.lists.specs.Lists.{range, any, first}
+use Rattle.lists.specs.Lists.{range, any}
 use Rattle.lists.proofs.Member.{and-both, in-range, range-in}
 use Rattle.lists.proofs.Closure.{length-range}
 use Rattle.paper.specs.Lattice.{Lattice, cubes, visited}
-use Rattle.paper.specs.Tables.{Tri, tri}
+use Rattle.paper.specs.Tables.{Tri}
 use Rattle.paper.specs.Sheet.{vertexRecord, vertexEdges, sheetOf}
 use Rattle.paper.specs.Within.{Sized}
 use Rattle.paper.specs.Check.{sameNumber, sameNumbers, turned, recordOf, edgeOf, badRecord, triangleOf, badNaming, complete}
 use Rattle.paper.proofs.Listing.{edges-rising}
-use Rattle.pairing.specs.Pairing.{count, Arrow, arrow, around, isArrow, times}
-use Rattle.pairing.proofs.Count.{list-in, in-list, any-at, at-any, count-each, count-unique, rising-unique, range-unique, sum, Unique}
+use Rattle.pairing.specs.Pairing.{count, arrow, around, isArrow, times}
+use Rattle.pairing.proofs.Count.{list-in, in-list, any-at, at-any, count-each, count-unique, rising-unique, range-unique, Unique}
 use Rattle.pairing.proofs.Sheets.{by-edge}
 use Rattle.pairing.proofs.Turned.{Turned, is-turned, turned-is, back, along, hit, hit-turned}
 use Rattle.paper.proofs.Records.{same-number, number-same, record-edge}

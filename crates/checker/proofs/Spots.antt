@@ -8,7 +8,7 @@ use native.Mathlib.Decide.{ℕ-discrete}
 use lib.Dec.{T}
 use lib.ListN.{length, getD}
 use borrow.Author.Tests.{ltb-true}
-use Rattle.lists.specs.Lists.{range, any, isIn, first}
+use Rattle.lists.specs.Lists.{range, any, isIn}
 use Rattle.lists.proofs.Member.{T→eq, eq→T, in-any, in-range}
 use Rattle.lists.proofs.Every.{any-with}
 use Rattle.lists.proofs.Runs.{any-first}
