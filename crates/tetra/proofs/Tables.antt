@@ -1,4 +1,4 @@
--- The code's tables are the definitions', each by a test at every entry. Assumes nothing.
+-- A table of the code that is a definition's, by a test at every entry; what the tables hold is small. Assumes nothing.
 use mathlib.Core.Path.{_≡_}
 use mathlib.Core.Bool.{Bool}
 use mathlib.Core.List.{List, []}
