@@ -28,13 +28,13 @@ module _ (z : Sizes) (s : Sized z) where
   unfolding cubes
   cubes-few = let x : z .nx - 1 ≤ 63 = omega (arith, s .x-high) in mul-le-mul x cube-layer-few
 
--- a number of three digits, and its parts, of axes of at most 64
-pub record Parts (w h x y z : ℕ) : Type 0 where
+-- the parts of a number of three digits, of axes of at most 64
+pub record Parts (w h y z : ℕ) : Type 0 where
   pub low : h * z ≤ 4096
   pub middle : w * (y + h * z) ≤ 266240
 
-pub parts : (w h x y z : ℕ) → w ≤ 64 → h ≤ 64 → y ≤ 64 → z ≤ 64 → Parts w h x y z
-parts w h x y z hw hh hy hz =
+pub parts : (w h y z : ℕ) → w ≤ 64 → h ≤ 64 → y ≤ 64 → z ≤ 64 → Parts w h y z
+parts w h y z hw hh hy hz =
     let a : h * z ≤ 4096 = mul-le-mul hh hz in
     let b : y + h * z ≤ 4160 = omega arith in
     record { low = a; middle = mul-le-mul hw b }

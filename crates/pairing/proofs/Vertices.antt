@@ -1,64 +1,37 @@
 -- The vertices of a sheet are the side-changing edges of its visited cubes, each once, and hold the corners of its triangles. Assumes nothing.
-use mathlib.Core.Path.{_≡_, refl, sym, subst}
-use mathlib.Core.Bool.{Bool, true, false, xor, _&&_}
+use mathlib.Core.Path.{_≡_, sym, subst}
+use mathlib.Core.Bool.{Bool, false}
 use mathlib.Core.List.{List, [], _∷_, map, List·Memᴰ as In, Memᴰ·map as in-map}
 use Prim.Native.Nat.{ℕ, zero, suc, _+_, _-_, _*_, _<_}
 use native.Mathlib.Omega.{arith}
 use lib.Dec.{T, ltb, ltb→lt}
 use lib.ListN.{length, getD}
 use Rattle.lists.specs.Lists.{range, keep, all, each, isIn}
-use Rattle.lists.proofs.Member.{and-left, and-right, and3, in-range}
+use Rattle.lists.proofs.Member.{and3, in-range}
 use Rattle.lists.proofs.Rising.{Rising, keep-rising}
+use Rattle.lists.proofs.Runs.{getD-map-lt}
 use Rattle.paper.specs.declared.Sizes.{Sizes}
 use Rattle.paper.specs.declared.Place.{Place}
 use Rattle.paper.specs.Lattice.{Lattice, airAt, samples, sampleNo, cubes, cubeAt, corner, visited}
 use Rattle.paper.specs.Within.{Sized}
 use Rattle.paper.specs.Tables.{Tet, Tri, ends, tets, rows, tetEdges, low, kindOf}
-use Rattle.paper.specs.Sheet.{edgeNo, split, cubeEdges, vertexEdges, rowOf, rowAt, tetEdge, triEdges, cubeTriangles, sheetOf}
+use Rattle.paper.specs.Sheet.{edgeNo, split, cubeEdges, vertexEdges, rowAt, tetEdge, triEdges, cubeTriangles, sheetOf}
 use Rattle.paper.proofs.Numbers.{sample-lt, cube-inside, corner-inside}
+use Rattle.paper.proofs.Tables.{kind-lt, differ, differs, row-differs}
 use Rattle.paper.proofs.Visits.{visited-exactly, visited-lt}
 use Rattle.pairing.specs.Pairing.{Carried, OneVertex}
 use Rattle.pairing.proofs.Count.{list-in, in-list, all-in, nth-in, keep-in, in-keep, each-in, in-each, map-in, rising-unique, count-unique}
-use Rattle.paper.proofs.Tables.{kind-lt}
-
--- ── rows ──
-
--- the ends of edge i of a tetrahedron, e1 to e6, are on different sides
-abbrev splits : Bool → Bool → Bool → Bool → ℕ → Bool
-splits a b c d i = ltb (i - 1) 6 && getD (xor a b ∷ xor a c ∷ xor a d ∷ xor b c ∷ xor b d ∷ xor c d ∷ []) (i - 1) false
-
-unfoldable rowSplits : Bool → Bool → Bool → Bool → Bool
-rowSplits a b c d = all (λ r. splits a b c d (r .a) && splits a b c d (r .b) && splits a b c d (r .c)) (getD rows (rowOf a b c d) [])
-
--- a row's triangles use such edges only
-row-splits : (a b c d : Bool) → T (rowSplits a b c d)
-unfolding rowSplits rows rowOf xor
-row-splits true true true true = tt
-row-splits true true true false = tt
-row-splits true true false true = tt
-row-splits true true false false = tt
-row-splits true false true true = tt
-row-splits true false true false = tt
-row-splits true false false true = tt
-row-splits true false false false = tt
-row-splits false true true true = tt
-row-splits false true true false = tt
-row-splits false true false true = tt
-row-splits false true false false = tt
-row-splits false false true true = tt
-row-splits false false true false = tt
-row-splits false false false true = tt
-row-splits false false false false = tt
 
 -- an edge of a tetrahedron is anchored at a corner
 low-edges : T (all (λ t. all (λ e. ltb (low e) 8) (tetEdges t)) tets)
 unfolding tets tetEdges low
 low-edges = tt
 
-getD-map : {A B : Type 0} (f : A → B) (l : List A) (i : ℕ) (d : A) (c : B) → i < length l → getD (map f l) i c ≡ f (getD l i d)
-getD-map f [] i d c h = absurd (omega arith)
-getD-map f (x ∷ l) zero d c h = refl
-getD-map f (x ∷ l) (suc i) d c h = getD-map f l i d c (omega arith)
+-- a test that passes is one of the list
+holds-in : (l : List Bool) (i : ℕ) → T (getD l i false) → i < length l
+holds-in [] i t = absurd t
+holds-in (b ∷ l) zero t = omega arith
+holds-in (b ∷ l) (suc i) t = omega (arith, holds-in l i t)
 
 -- a triangle's corners are of a list
 pub record Corners (es : List ℕ) (t : Tri) : Type 0 where
@@ -117,28 +90,26 @@ module _ (L : Lattice) (sized : Sized (L .size)) (start : ℕ) (inside : start <
   abbrev sidesOf : Place → Tet → (Bool → Bool → Bool → Bool → Bool) → Bool
   sidesOf p t f = f (airAt L (corner p (t .a))) (airAt L (corner p (t .b))) (airAt L (corner p (t .c))) (airAt L (corner p (t .d)))
 
-  corner-edge : (k : ℕ) (t : Tet) → In t tets → (i : ℕ) → T (sidesOf (cubeAt z k) t (λ a b c d. splits a b c d i)) → In (tetEdge z (cubeAt z k) t i) (cubeEdges L k)
-  unfolding cubeEdges tetEdge split tetEdges
+  corner-edge : (k : ℕ) (t : Tet) → In t tets → (i : ℕ) → T (sidesOf (cubeAt z k) t (λ a b c d. differ a b c d i)) → In (tetEdge z (cubeAt z k) t i) (cubeEdges L k)
+  unfolding cubeEdges tetEdge split tetEdges differ
   corner-edge k t j i s =
       let p = cubeAt z k in
       let l = tetEdges t in
-      let b = getD (map (split L p) l) (i - 1) false in
-      let h : i - 1 < length l = ltb→lt (i - 1) 6 (and-left (ltb (i - 1) 6) b s) in
+      let h : i - 1 < length l = holds-in (map (split L p) l) (i - 1) s in
       in-each (λ t. map (edgeNo z p) (keep (split L p) (tetEdges t))) j
       (in-map (edgeNo z p)
-      (in-keep (split L p) (nth-in l (i - 1) (ends 0 0) h) (subst T (getD-map (split L p) l (i - 1) (ends 0 0) false h) (and-right (ltb (i - 1) 6) b s))))
+      (in-keep (split L p) (nth-in l (i - 1) (ends 0 0) h) (subst T (getD-map-lt (split L p) l (i - 1) false (ends 0 0) h) s)))
 
   corner-in : (k : ℕ) (t : Tet) → In t tets → In k (visited L start) → (r : Tri) → In r (getD rows (rowAt L (cubeAt z k) t) [])
       → Corners (sheetOf L start .edges) (triEdges z (cubeAt z k) t r)
-  unfolding rowAt rowSplits triEdges
+  unfolding rowAt differs triEdges
   corner-in k t j i r m =
       let p = cubeAt z k in
       let a = airAt L (corner p (t .a)) in
       let b = airAt L (corner p (t .b)) in
       let c = airAt L (corner p (t .c)) in
       let d = airAt L (corner p (t .d)) in
-      let s = and3 (splits a b c d (r .a)) (splits a b c d (r .b)) (splits a b c d (r .c))
-      (all-in (λ r. splits a b c d (r .a) && splits a b c d (r .b) && splits a b c d (r .c)) (row-splits a b c d) m) in
+      let s = and3 (differ a b c d (r .a)) (differ a b c d (r .b)) (differ a b c d (r .c)) (all-in (differs a b c d) (row-differs a b c d) m) in
       record {
         a = in-edges k (tetEdge z p t (r .a)) i (corner-edge k t j (r .a) (s .0));
         b = in-edges k (tetEdge z p t (r .b)) i (corner-edge k t j (r .b) (s .1));

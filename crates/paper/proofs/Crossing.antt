@@ -36,7 +36,7 @@ difference p (negsuc n) s a = absurd (subst T (sym a) tt)
 
 pub crossing-nat : (p q : ℤ) → air p ≡ false → air q ≡ true → crossing p q ≡ 65536 * natAbs p / (natAbs q + natAbs p)
 unfolding crossing
-crossing-nat p q s a = rw (difference p q s a, solid-neg p s)
+crossing-nat p q s a = λ i. 65536 * natAbs (solid-neg p s i) / natAbs (difference p q s a i)
 
 -- p solid and q air: t units are at most the exact crossing, t + 1 are more, and t falls short of the air end
 pub record Exact (p q : ℤ) : Type 0 where

@@ -15,20 +15,14 @@ use Rattle.lists.proofs.Every.{All, all-test, all-weak, all-getD, all-in, all-m
 use Rattle.lists.proofs.Runs.{first-lt}
 use Rattle.paper.specs.declared.Place.{Place}
 use Rattle.paper.specs.Lattice.{Lattice, cubeAt}
-use Rattle.paper.specs.Tables.{Ends, Tet, Tri, ends, tet, tri, tets, rows, tetEdges, kinds, low, joins, kindOf}
+use Rattle.paper.specs.Tables.{Ends, Tet, Tri, ends, tets, rows, tetEdges, kinds, low, joins, kindOf}
 use Rattle.paper.specs.Sheet.{edgeNo, split, cubeEdges, weight, rowOf, rowAt, triEdges, cubeTriangles}
 
 -- ── entries ──
 
--- tetrahedron i, counted from 0; its edge e1 to e6; triangle j of row n, counted from 0
-abbrev pub tetAt : ℕ → Tet
-tetAt i = getD tets i (tet 0 0 0 0)
-
+-- edge e1 to e6 of a tetrahedron
 abbrev pub edgeOf : Tet → ℕ → Ends
 edgeOf t i = getD (tetEdges t) (i - 1) (ends 0 0)
-
-abbrev pub triangleAt : ℕ → ℕ → Tri
-triangleAt n j = getD (getD rows n []) j (tri 0 0 0)
 
 -- a test of every edge of every tetrahedron
 unfoldable pub everyEdge : (Ends → Bool) → Bool

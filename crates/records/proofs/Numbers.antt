@@ -1,4 +1,4 @@
--- Signed numbers and records that are the same by the test, and the four numbers of a record. Assumes nothing.
+-- Signed numbers that the machine compares, the four numbers of a record, and an edge among n. Assumes nothing.
 use mathlib.Core.Path.{_≡_, refl, sym, ap, subst, _∙_}
 use mathlib.Core.Bool.{Bool, true, false, cond}
 use mathlib.Core.List.{List, [], _∷_}

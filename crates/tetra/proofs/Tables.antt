@@ -1,7 +1,7 @@
--- The code's tables are the definitions', each by a test at every entry. Assumes nothing.
+-- A table of the code that is a definition's, by a test at every entry; what the tables hold is small. Assumes nothing.
 use mathlib.Core.Path.{_≡_}
 use mathlib.Core.Bool.{Bool}
-use mathlib.Core.List.{List, [], _∷_}
+use mathlib.Core.List.{List, []}
 use Prim.Native.Nat.{ℕ, _≤_, _<_}
 use native.Mathlib.Omega.{arith}
 use lib.Dec.{T, eqb, eqb→eq, ltb, ltb→lt}
@@ -9,7 +9,7 @@ use lib.ListN.{length, getD, length-map}
 use Rattle.lists.specs.Lists.{each}
 use Rattle.lists.proofs.Computed.{grid, grid-at}
 use Rattle.paper.specs.declared.Sizes.{Sizes}
-use Rattle.paper.specs.Tables.{tets, rows, tetEdges, kinds, low, joins, kindOf}
+use Rattle.paper.specs.Tables.{tets, rows, tetEdges, low}
 use Rattle.paper.specs.Sheet.{corners3}
 use Rattle.paper.proofs.Tables.{row-short}
 use Rattle.tetra.specs.Cut.{tetAt, tetCorner, tetEnds, rowCount, rowEdge, rowTriangles, locals, localAt}
@@ -26,35 +26,7 @@ pub tet-corner-lt : (t j : ℕ) → t < 6 → j < 4 → tetCorner t j < 8
 unfolding tetCorner tetAt tets
 tet-corner-lt t j ht hj = ltb→lt (tetCorner t j) 8 (grid-at 6 4 (λ t j. ltb (tetCorner t j) 8) tt t j ht hj)
 
--- the corner at the anchor of a tetrahedron's edge, and its kind
-unfoldable pub lowTable : List (List ℕ)
-lowTable =
-    (0 ∷ 0 ∷ 0 ∷ 0 ∷ 0 ∷ 0 ∷ [])
-    ∷ (2 ∷ 0 ∷ 1 ∷ 0 ∷ 0 ∷ 0 ∷ [])
-    ∷ (2 ∷ 2 ∷ 0 ∷ 2 ∷ 0 ∷ 4 ∷ [])
-    ∷ (1 ∷ 0 ∷ 1 ∷ 0 ∷ 1 ∷ 4 ∷ [])
-    ∷ (0 ∷ 2 ∷ 1 ∷ 4 ∷ 4 ∷ 4 ∷ [])
-    ∷ (2 ∷ 3 ∷ 1 ∷ 6 ∷ 4 ∷ 5 ∷ [])
-    ∷ []
-
-unfoldable pub kindTable : List (List ℕ)
-kindTable =
-    (1 ∷ 0 ∷ 2 ∷ 5 ∷ 3 ∷ 4 ∷ [])
-    ∷ (0 ∷ 6 ∷ 1 ∷ 3 ∷ 5 ∷ 4 ∷ [])
-    ∷ (0 ∷ 4 ∷ 6 ∷ 2 ∷ 3 ∷ 1 ∷ [])
-    ∷ (1 ∷ 6 ∷ 3 ∷ 4 ∷ 2 ∷ 0 ∷ [])
-    ∷ (6 ∷ 4 ∷ 3 ∷ 1 ∷ 0 ∷ 5 ∷ [])
-    ∷ (4 ∷ 2 ∷ 3 ∷ 0 ∷ 5 ∷ 1 ∷ [])
-    ∷ []
-
-pub low-is : (t j : ℕ) → t < 6 → j < 6 → getD (getD lowTable t []) j 0 ≡ low (tetEnds t j)
-unfolding tabled lowTable tetEnds tetAt tets tetEdges low
-low-is t j ht hj = tabled-at (λ t j. low (tetEnds t j)) 6 6 lowTable tt t j ht hj
-
-pub kind-is : (t j : ℕ) → t < 6 → j < 6 → getD (getD kindTable t []) j 0 ≡ kindOf (tetEnds t j)
-unfolding tabled kindTable tetEnds tetAt tets tetEdges low joins kinds kindOf
-kind-is t j ht hj = tabled-at (λ t j. kindOf (tetEnds t j)) 6 6 kindTable tt t j ht hj
-
+-- the corner at the anchor of a tetrahedron's edge
 pub low-lt : (t j : ℕ) → t < 6 → j < 6 → low (tetEnds t j) < 8
 unfolding tetEnds tetAt tets tetEdges low
 low-lt t j ht hj = ltb→lt (low (tetEnds t j)) 8 (grid-at 6 6 (λ t j. ltb (low (tetEnds t j)) 8) tt t j ht hj)

@@ -7,7 +7,7 @@ ghost use Rattle.paper.specs.Tables.{tri};
 ghost use Rattle.paper.specs.Within.{Sized};
 ghost use Rattle.lattice.specs.Steps.{cornerStep};
 ghost use Rattle.sides.specs.Pattern.{bitOf};
-ghost use Rattle.tetra.specs.Cut.{tetCorner, tetCorners, tetStep, tetSteps, rowBy, rowCount, rowSteps, rowTriangles, triOf, localAt, localSplit, localStep, localSteps};
+ghost use Rattle.tetra.specs.Cut.{tetCorner, tetCorners, tetSteps, rowBy, rowCount, rowSteps, rowTriangles, triOf, localAt, localSplit, localSteps};
 
 // A triangle by its lattice edges.
 pub struct Triangle {
@@ -131,23 +131,25 @@ fn corner_step(sizes: Sizes, c: usize) -> usize
     c % 2 + (sizes.nx * (c / 2 % 2) + layer * (c / 4))
 }
 
-// How far the number of edge j of tetrahedron t is from 7 × the number of the cube's lowest sample.
-fn tet_step(sizes: Sizes, t: usize, j: usize) -> usize
-    requires { ⌜ Sized sizes × (t < 6) × (j < 6) ⌝ }
-    ensures { λ r. ⌜ (r ≡ tetStep sizes t j) × (r ≤ 29133) ⌝ }
+// How far the number of an edge is from 7 × the number of the cube's lowest sample, by the corner at its anchor and its kind.
+fn step_of(sizes: Sizes, c: usize, kind: usize) -> usize
+    requires { ⌜ Sized sizes × (c < 8) × (kind < 8) ⌝ }
+    ensures { λ r. ⌜ r ≡ 7 * cornerStep sizes c + kind ⌝ }
 {
-    7 * corner_step(sizes, LOWS[t][j]) + KINDS[t][j]
+    7 * corner_step(sizes, c) + kind
 }
 
-// The same of all, six to a tetrahedron.
+// The same of the edges of all tetrahedra, six to each.
 fn tet_steps(sizes: Sizes) -> [usize; 36]
     requires { ⌜ Sized sizes ⌝ }
     ensures { λ r. ⌜ r ≡ tetSteps sizes ⌝ }
 {
+    let lows = LOWS;
+    let kinds = KINDS;
     let mut steps = [0usize; 36];
     let mut i = 0;
     while i < 36 {
-        steps[i] = tet_step(sizes, i / 6, i % 6);
+        steps[i] = step_of(sizes, lows[i / 6][i % 6], kinds[i / 6][i % 6]);
         i += 1;
     }
     steps
@@ -219,13 +221,6 @@ pub fn local_split(m: usize, j: usize) -> bool
     a != b
 }
 
-fn local_step(sizes: Sizes, j: usize) -> usize
-    requires { ⌜ Sized sizes × (j < 19) ⌝ }
-    ensures { λ r. ⌜ (r ≡ localStep sizes j) × (r ≤ 29134) ⌝ }
-{
-    7 * corner_step(sizes, local_at(j, 0)) + local_at(j, 1)
-}
-
 // How far the numbers of the 19 edges are from 7 × the number of the cube's lowest sample.
 pub fn local_steps(sizes: Sizes) -> [usize; 19]
     requires { ⌜ Sized sizes ⌝ }
@@ -234,7 +229,7 @@ pub fn local_steps(sizes: Sizes) -> [usize; 19]
     let mut steps = [0usize; 19];
     let mut i = 0;
     while i < 19 {
-        steps[i] = local_step(sizes, i);
+        steps[i] = step_of(sizes, local_at(i, 0), local_at(i, 1));
         i += 1;
     }
     steps

@@ -3,7 +3,7 @@ use mathlib.Core.Path.{_≡_, refl, sym, ap, subst, _∙_}
 use mathlib.Core.Bool.{Bool, true, false, cond, not, _&&_, and-false}
 use mathlib.Core.List.{List}
 use Prim.Native.Nat.{ℕ, zero, suc, _+_, _-_, _*_, _/_, _%_, _^_, _≤_, _<_}
-use native.Mathlib.Nat.{mul-le-mul, mul-comm, pow-suc, div-div-eq-div-mul}
+use native.Mathlib.Nat.{mul-comm, pow-suc, div-div-eq-div-mul}
 use native.Mathlib.Decide.{ℕ-discrete}
 use native.Mathlib.Numerals.{add-one}
 use native.Mathlib.Omega.{arith}
@@ -39,13 +39,6 @@ power-fits c h =
     let e = eqb→eq (1 * 2 ^ c % 4294967296) (2 ^ c) (upto-at 12 (λ c. eqb (1 * 2 ^ c % 4294967296) (2 ^ c)) tt c h) in
     let l = ltb→lt (2 ^ c) 2049 (upto-at 12 (λ c. ltb (2 ^ c) 2049) tt c h) in
     (e, omega arith)
-
--- three numbers below 64 as digits of at most 63 stay small
-pub digits-small : (w h y z : ℕ) → w ≤ 63 → h ≤ 63 → y ≤ 63 → z ≤ 63 → (h * z ≤ 3969) × (w * (y + h * z) ≤ 254016)
-digits-small w h y z hw hh hy hz =
-    let a : h * z ≤ 63 * 63 = mul-le-mul hh hz in
-    let b : w * (y + h * z) ≤ 63 * 4032 = mul-le-mul {m₂ = 4032} hw (omega arith) in
-    (omega arith, omega arith)
 
 -- an edge that is among n is the record's
 pub named-is : (z : ℤ) (n : ℕ) → edgeIn z n < n → edgeIn z n ≡ natAbs z

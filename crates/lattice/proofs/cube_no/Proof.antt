@@ -9,8 +9,8 @@ use borrow.Author.Needs.{needs}
 use Rattle.lattice.proofs.cube_no.Statement.{statement}
 use Rattle.lattice.proofs.cube_no.Tie as tie
 
-small : (c : tie.Start) → let p = c .args .p in let z = c .args .sizes in Parts (z .nx - 1) (z .ny - 1) (p .x) (p .y) (p .z)
-small c = parts _ _ _ _ _ (omega arith) (omega arith) (omega arith) (omega arith)
+small : (c : tie.Start) → let p = c .args .p in let z = c .args .sizes in Parts (z .nx - 1) (z .ny - 1) (p .y) (p .z)
+small c = parts _ _ _ _ (omega arith) (omega arith) (omega arith) (omega arith)
 
 sub-result : tie.Need-sub-result
 sub-result c = search needs

@@ -7,8 +7,8 @@ use Rattle.lattice.proofs.Laws.{Parts, parts}
 use Rattle.lattice.proofs.sample_no.Statement.{statement}
 use Rattle.lattice.proofs.sample_no.Tie as tie
 
-small : (c : tie.Start) → let p = c .args .p in let z = c .args .sizes in Parts (z .nx) (z .ny) (p .x) (p .y) (p .z)
-small c = parts _ _ _ _ _ (omega arith) (omega arith) (omega arith) (omega arith)
+small : (c : tie.Start) → let p = c .args .p in let z = c .args .sizes in Parts (z .nx) (z .ny) (p .y) (p .z)
+small c = parts _ _ _ _ (omega arith) (omega arith) (omega arith) (omega arith)
 
 mul-result : tie.Need-mul-result
 mul-result c = omega (arith, small (c .before .before))

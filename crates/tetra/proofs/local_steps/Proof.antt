@@ -1,8 +1,9 @@
 -- The steps so far are the definition's. Assumes nothing.
-use mathlib.Core.Path.{refl}
-use Prim.Native.Nat.{_-_}
+use mathlib.Core.Path.{refl, _∙_}
+use Prim.Native.Nat.{_+_, _-_, _*_}
 use native.Mathlib.Omega.{arith}
 use Rattle.lists.proofs.Filled.{Filled, filled-none, filled-more, filled-all}
+use Rattle.lattice.specs.Steps.{cornerStep}
 use Rattle.tetra.specs.Cut.{localStep, localSteps}
 use Rattle.tetra.proofs.local_steps.Statement.{statement}
 use Rattle.tetra.proofs.local_steps.Tie as tie
@@ -16,14 +17,20 @@ abbrev μ-loop : tie.MeasureT-loop
 loop-holds : tie.Need-loop-holds Inv-loop μ-loop
 loop-holds c = filled-none _ 19 _ refl
 
-local-step-requires : tie.Need-local-step-requires Inv-loop μ-loop
-local-step-requires c κs = (c .before .before .pre, omega arith)
+local-at-requires : tie.Need-local-at-requires Inv-loop μ-loop
+local-at-requires c κs = (omega arith, omega arith)
+
+local-at-requires-2 : tie.Need-local-at-requires-2 Inv-loop μ-loop
+local-at-requires-2 c κs = (omega arith, omega arith)
+
+step-of-requires : tie.Need-step-of-requires Inv-loop μ-loop
+step-of-requires c κs = (c .before .before .before .before .pre, c .before .local-at .ensures .1, c .local-at2 .ensures .1)
 
 mul-steps : tie.Need-mul-steps Inv-loop μ-loop
 mul-steps c = omega arith
 
 array-write-steps : tie.Need-array-write-steps Inv-loop μ-loop
-array-write-steps c = omega (arith, c .before .before .loop .inv .long)
+array-write-steps c = omega (arith, c .before .before .before .before .loop .inv .long)
 
 add-i : tie.Need-add-i Inv-loop μ-loop
 add-i c = omega arith
@@ -32,7 +39,12 @@ loop-less : tie.Need-loop-less Inv-loop μ-loop
 loop-less c = omega arith
 
 loop-again : tie.Need-loop-again Inv-loop μ-loop
-loop-again c = filled-more _ 19 (c .before .before .loop .i) _ _ (c .before .before .loop .inv) (omega arith) (c .local-step .ensures .0)
+unfolding localStep
+loop-again c =
+    let a = c .before .before .local-at .ensures .0 in
+    let b = c .before .local-at2 .ensures .0 in
+    filled-more _ 19 (c .before .before .before .before .loop .i) _ _ (c .before .before .before .before .loop .inv) (omega arith)
+    (c .step-of .ensures ∙ (λ k. 7 * cornerStep (c .before .before .before .before .before .args .sizes) (a k) + b k))
 
 returns : tie.Need-returns Inv-loop μ-loop
 unfolding localSteps
@@ -45,7 +57,9 @@ local-steps-spec =
     Inv-loop
     μ-loop
     loop-holds
-    local-step-requires
+    local-at-requires
+    local-at-requires-2
+    step-of-requires
     mul-steps
     array-write-steps
     add-i

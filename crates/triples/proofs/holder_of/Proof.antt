@@ -4,7 +4,7 @@ use Prim.Native.Nat.{_+_, _-_, _*_, min, _≤_}
 use native.Mathlib.Omega.{arith}
 use Rattle.paper.specs.Lattice.{cubeNo}
 use Rattle.triples.specs.Triples.{holder}
-use Rattle.triples.proofs.Laws.{digits-small}
+use Rattle.lattice.proofs.Laws.{Parts, parts}
 use borrow.Author.Needs.{needs}
 use Rattle.triples.proofs.holder_of.Statement.{statement}
 use Rattle.triples.proofs.holder_of.Tie as tie
@@ -19,12 +19,10 @@ module _ (c : tie.After-least3) where
         omega (arith, c .least3 .ensures, a .z, s .z-high),
       )
 
-  small : ((c .before .before .before .before .before .before .args .sizes .ny - 1) * c .least3 .result ≤ 3969)
-      × ((c .before .before .before .before .before .before .args .sizes .nx - 1) * (c .before .least2 .result + (c .before .before .before .before .before .before .args .sizes .ny - 1) * c .least3 .result) ≤ 254016)
+  small : let z = c .before .before .before .before .before .before .args .sizes in Parts (z .nx - 1) (z .ny - 1) (c .before .least2 .result) (c .least3 .result)
   small =
       let s = c .before .before .before .before .before .before .pre .0 in
-      digits-small (c .before .before .before .before .before .before .args .sizes .nx - 1) (c .before .before .before .before .before .before .args .sizes .ny - 1) (c .before .least2 .result) (c .least3 .result)
-      (omega (arith, s .x-high)) (omega (arith, s .y-high)) (low .1) (low .2)
+      parts _ _ _ _ (omega (arith, s .x-high)) (omega (arith, s .y-high)) (omega (arith, low .1)) (omega (arith, low .2))
 
 anchor-of-requires : tie.Need-anchor-of-requires
 anchor-of-requires c κs = search needs
