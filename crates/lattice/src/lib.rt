@@ -90,19 +90,19 @@ pub fn cube_at(sizes: Sizes, k: usize) -> Place
     place_of(k, w, h)
 }
 
-// The place of the number after p's, in rows of w and layers of h rows.
-fn next_in(w: usize, h: usize, p: Place) -> Place
-    requires { ⌜ (w ≤ 64) × (h ≤ 64) × (p .x < w) × (p .y < h) × (p .z < 64) ⌝ }
-    ensures { λ r. ⌜ r ≡ nextIn w h p ⌝ }
+// The place of the sample of the next number.
+pub fn next_sample(sizes: Sizes, p: Place) -> Place
+    requires { ⌜ Sized sizes × SampleIn sizes p ⌝ }
+    ensures { λ r. ⌜ r ≡ sampleAt sizes (sampleNo sizes p + 1) ⌝ }
 {
-    if p.x + 1 < w {
+    if p.x + 1 < sizes.nx {
         return Place {
             x: p.x + 1,
             y: p.y,
             z: p.z,
         };
     }
-    if p.y + 1 < h {
+    if p.y + 1 < sizes.ny {
         return Place {
             x: 0,
             y: p.y + 1,
@@ -116,18 +116,28 @@ fn next_in(w: usize, h: usize, p: Place) -> Place
     }
 }
 
-// The place of the sample of the next number.
-pub fn next_sample(sizes: Sizes, p: Place) -> Place
-    requires { ⌜ Sized sizes × SampleIn sizes p ⌝ }
-    ensures { λ r. ⌜ r ≡ sampleAt sizes (sampleNo sizes p + 1) ⌝ }
-{
-    next_in(sizes.nx, sizes.ny, p)
-}
-
 // The place of the cube of the next number.
 pub fn next_cube(sizes: Sizes, p: Place) -> Place
     requires { ⌜ Sized sizes × CubeIn sizes p ⌝ }
     ensures { λ r. ⌜ r ≡ cubeAt sizes (cubeNo sizes p + 1) ⌝ }
 {
-    next_in(sizes.nx - 1, sizes.ny - 1, p)
+    if p.x + 2 < sizes.nx {
+        return Place {
+            x: p.x + 1,
+            y: p.y,
+            z: p.z,
+        };
+    }
+    if p.y + 2 < sizes.ny {
+        return Place {
+            x: 0,
+            y: p.y + 1,
+            z: p.z,
+        };
+    }
+    Place {
+        x: 0,
+        y: 0,
+        z: p.z + 1,
+    }
 }
