@@ -5,7 +5,6 @@ ghost use mathlib.Core.Path.{_≡_};
 ghost use Prim.Native.Nat.{_+_, _*_, _/_, _%_, _≤_, _<_};
 ghost use Rattle.paper.specs.Lattice.{place, axis, axes, samples, sampleNo, sampleAt, cubes, cubeNo, cubeAt};
 ghost use Rattle.paper.specs.Within.{Sized, SampleIn, CubeIn};
-ghost use Rattle.lattice.specs.Steps.{nextIn};
 
 // "An axis has 2 to 64 samples."
 fn axis_passes(n: usize) -> bool
