@@ -1,39 +1,36 @@
 -- What a build and then a write make is accepted. Assumes nothing.
-use mathlib.Core.Path.{_≡_, refl, sym, ap, subst, _∙_}
-use mathlib.Core.Bool.{Bool, true, false, cond}
-use mathlib.Core.List.{List, [], _∷_, _++_, map}
-use Prim.Native.Nat.{ℕ, zero, suc, _+_, _*_, _/_, _%_, _<_}
+use mathlib.Core.Path.{_≡_, sym, ap, subst, _∙_}
+use mathlib.Core.List.{List, [], _∷_, _++_, map, map-map}
+use Prim.Native.Nat.{ℕ, zero, suc, _+_, _*_, _<_}
 use native.Mathlib.Omega.{arith}
 use lib.IntN.{ℤ, pos, natAbs}
-use lib.Dec.{T}
-use lib.ListN.{length, getD, take, drop, List·getD-append, length-map}
-use lib.Seq.{take-append-seam, take-append-le, drop-append-add, ext-getD}
+use lib.ListN.{length, getD, take, drop, List·getD-append}
+use lib.Seq.{take-all, take-append-seam, take-append-le, drop-append-add}
 use mir.Syntax.{w32}
 use mir.Val.{SFits}
-use Rattle.lists.specs.Lists.{range, each, over, isIn}
-use Rattle.lists.proofs.Every.{All, all-at, all-getD, all-each}
-use Rattle.lists.proofs.Runs.{length-along, at-along, getD-map-lt}
-use Rattle.paper.specs.declared.Place.{Place}
+use Rattle.lists.specs.Lists.{range, count, each, over}
+use Rattle.lists.proofs.Every.{All, all-at, all-getD, all-each, map-same-in}
+use Rattle.lists.proofs.Runs.{along-list}
+use Rattle.lists.proofs.Within.{members, below}
 use Rattle.paper.specs.declared.Start.{Start}
 use Rattle.paper.specs.declared.Verdict.{Verdict}
 use Rattle.paper.specs.declared.Built.{Built}
 use Rattle.paper.specs.declared.Wrote.{Wrote}
-use Rattle.paper.specs.Lattice.{Lattice, samples, sampleAt, airAt, corner}
-use Rattle.paper.specs.Tables.{Tri, tri, ends, kinds}
-use Rattle.paper.specs.Sheet.{Sheet, sheetOf, recordAt, vertexRecord, vertexWords, triangleWords}
+use Rattle.paper.specs.Lattice.{Lattice, samples}
+use Rattle.paper.specs.Tables.{tri}
+use Rattle.paper.specs.Sheet.{Sheet, sheetOf, vertexRecord, vertexWords, triangleWords}
 use Rattle.paper.specs.Within.{Sized}
-use Rattle.paper.specs.Tests.{verdict, judge}
-use Rattle.paper.specs.Build.{Lent, startOf, sampleTests, buildNumber, counted, uncounted, built, outputAfter, lentAfter, Builds}
-use Rattle.paper.specs.File.{contentOf, fileBytes, writeVerdict, Writes, fileT}
+use Rattle.paper.specs.Tests.{judge}
+use Rattle.paper.specs.Build.{Lent, startOf, sampleTests, buildNumber, counted, built, outputAfter, lentAfter, Builds}
+use Rattle.paper.specs.File.{contentOf, fileBytes, writeVerdict, Writes}
 use Rattle.paper.specs.Check.{recordOf, edgeOf, cornerOf, triangleOf, sameNumbers, turned, checked}
-use Rattle.paper.proofs.Listing.{Below, named, edges-lt, sheet-positioned, indices-below, indices-name, vertex-words-length, triangle-words-length}
+use Rattle.paper.proofs.Listing.{Below, named, edges-lt, sheet-positioned, indices-below, indices-name, record-length, vertex-words-length, triangle-words-length}
 use Rattle.paper.proofs.Crossing.{Positioned}
 use Rattle.tetra.proofs.Laws.{three}
 use Rattle.lattice.proofs.Laws.{samples-few}
 use Rattle.codec.specs.Words.{Words}
 use Rattle.layout.proofs.Passing.{first-same}
-use Rattle.pairing.specs.Pairing.{count}
-use Rattle.pairing.proofs.Tests.{sample-tests}
+use Rattle.paper.proofs.Passing.{sample-tests, built-number, built-zero}
 use Rattle.paper.proofs.Records.{record-edge}
 use Rattle.sheetfile.specs.Taken.{Taken}
 use Rattle.sheetfile.specs.Trips.{Holds}
@@ -41,28 +38,15 @@ use Rattle.sheetfile.proofs.Answers.{taken, taken-verdict}
 use Rattle.sheetfile.proofs.Written.{written}
 use Rattle.sheetfile.proofs.RoundTrips.{written-bytes}
 use Rattle.acceptance.specs.Holding.{fileRecords, fileTriples, sheetRecords, Holding}
-use Rattle.acceptance.proofs.Exact.{numbers-same, accepted-exactly}
+use Rattle.acceptance.proofs.Exact.{accepted-exactly}
 
 -- ── lists ──
 
 -- along a run as long as a list
-run-is : {A B : Type 0} (g : ℕ → B) (f : A → B) (l : List A) (d : A) (e : B) → ((i : ℕ) → i < length l → g i ≡ f (getD l i d)) → map g (range 0 (length l)) ≡ map f l
-run-is g f l d e h =
-    ext-getD e (map g (range 0 (length l))) (map f l) (length-along g 0 (length l) ∙ sym (length-map l f))
-    (λ i b.
-    let c : i < length l = omega (arith, length-along g 0 (length l)) in
-    at-along g e (length l) i c ∙ (h i c ∙ sym (getD-map-lt f l i e d c)))
-
-record-length : (L : Lattice) (e : ℕ) → length (vertexRecord L e) ≡ 4
-unfolding vertexRecord recordAt
-record-length L e =
-    let anchor = sampleAt (L .size) (e / 7) in
-    let k = getD kinds (e % 7) (ends 0 0) in
-    go (airAt L (corner anchor (k .a))) (corner anchor (k .a)) (corner anchor (k .b))
-  where
-    go : (b : Bool) (u v : Place) → length (cond b (recordAt L e v u) (recordAt L e u v)) ≡ 4
-    go true u v = refl
-    go false u v = refl
+run-is : {A B : Type 0} (g : ℕ → B) (f : A → B) (l : List A) (d : A) → ((i : ℕ) → i < length l → g i ≡ f (getD l i d)) → map g (range 0 (length l)) ≡ map f l
+run-is g f l d h =
+    map-same-in g (λ i. f (getD l i d)) (range 0 (length l)) (members (range 0 (length l)) (λ i m. h i (below (length l) i m)))
+    ∙ (sym (map-map f (λ i. getD l i d) (range 0 (length l))) ∙ ap (map f) (along-list l d))
 
 -- the four numbers of record i of records one behind the other
 record-at : (L : Lattice) (es : List ℕ) (i : ℕ) → i < length es → recordOf (each (vertexRecord L) es) i ≡ vertexRecord L (getD es i 0)
@@ -97,16 +81,16 @@ module _ (L : Lattice) (s : Sized (L .size)) (start : ℕ) where
 
   records-are : map (recordOf vw) (range 0 nv) ≡ map (vertexRecord L) (S .edges)
   unfolding vertexWords
-  records-are = run-is (recordOf vw) (vertexRecord L) (S .edges) 0 [] (record-at L (S .edges))
+  records-are = run-is (recordOf vw) (vertexRecord L) (S .edges) 0 (record-at L (S .edges))
 
   edge-at : (k : ℕ) → k < nv → natAbs (edgeOf vw k) ≡ getD (S .edges) k 0
   unfolding vertexWords
-  edge-at k h = ap natAbs (record-edge L vw k (getD (S .edges) k 0) (numbers-same (recordOf vw k) (vertexRecord L (getD (S .edges) k 0)) (record-at L (S .edges) k h)))
+  edge-at k h = ap natAbs (record-edge L vw k (getD (S .edges) k 0) (record-at L (S .edges) k h))
 
   triangles-are : map (triangleOf vw tw) (range 0 nt) ≡ S .byEdge
-  unfolding triangleOf cornerOf triangleWords
+  unfolding triangleOf cornerOf triangleWords named
   triangles-are =
-      run-is (triangleOf vw tw) (named (S .edges)) (S .triangles) (tri 0 0 0) (tri 0 0 0)
+      run-is (triangleOf vw tw) (named (λ i. getD (S .edges) i 0)) (S .triangles) (tri 0 0 0)
       (λ i h.
       let t = getD (S .triangles) i (tri 0 0 0) in
       let w = three (S .triangles) i h in
@@ -153,24 +137,17 @@ record Made (L : Lattice) (s : Start) (before : Lent) (r : Built) (after : Lent)
   triangle-words : after .triangles ≡ over (triangleWords (sheetOf L (startOf L s))) (before .triangles)
 
 made : {L : Lattice} {s : Start} {before : Lent} {r : Built} {after : Lent} → Builds L s before r after → r .number ≡ 0 → Made L s before r after
-unfolding built lentAfter outputAfter
+unfolding lentAfter outputAfter
 made {L} {s} {before} {r} {after} b e =
-    let S = sheetOf L (startOf L s) in
-    let n : buildNumber L s before ≡ 0 = answered (buildNumber L s before) S (sym (ap (λ (x : Built). x .number) (b .answer)) ∙ e) in
-    let q : r ≡ counted 0 S = b .answer ∙ rw n in
+    let z : built L s before .number ≡ 0 = sym (ap (λ (x : Built). x .number) (b .answer)) ∙ e in
+    let n : buildNumber L s before ≡ 0 = sym (built-number L s before) ∙ z in
+    let q : r ≡ counted 0 (sheetOf L (startOf L s)) = b .answer ∙ built-zero L s before z in
     record {
       vertices = ap (λ (x : Built). x .vertices) q;
       triangles = ap (λ (x : Built). x .triangles) q;
       vertex-words = ap (λ (x : Lent). x .vertices) (b .left) ∙ rw n;
       triangle-words = ap (λ (x : Lent). x .triangles) (b .left) ∙ rw n;
     }
-  where
-    answered : (n : ℕ) (S : Sheet) → cond (isIn (0 ∷ 6 ∷ 7 ∷ []) n) (counted n S) (uncounted n) .number ≡ 0 → n ≡ 0
-    answered n S = go (isIn (0 ∷ 6 ∷ 7 ∷ []) n)
-      where
-        go : (b : Bool) → cond b (counted n S) (uncounted n) .number ≡ 0 → n ≡ 0
-        go true e = e
-        go false e = e
 
 module _ (L : Lattice) (sz : Sized (L .size)) (start : ℕ) (old : List ℤ) (old′ : List ℕ) (room : ℕ) where
   abbrev T′ : Sheet
@@ -211,12 +188,6 @@ module _ (L : Lattice) (sz : Sized (L .size)) (start : ℕ) (old : List ℤ) (ol
       written (L .size) V′ N′ (vertexWords L T′) (triangleWords T′) room (words-fit L sz start)
       (ap (λ (v : Verdict). v .number) (taken-verdict (L .size) V′ N′ (vertexWords L T′) (triangleWords T′) room u))
 
-whole : {A : Type 0} (l : List A) (n : ℕ) → length l ≡ n → take n l ≡ l
-whole [] zero e = refl
-whole [] (suc n) e = refl
-whole (x ∷ l) zero e = absurd (omega arith)
-whole (x ∷ l) (suc n) e = ap (λ (m : List _). x ∷ m) (whole l n (omega arith))
-
 -- what a build and then a write make is accepted, with any work slices that are long enough
 pub built-accepted : {L : Lattice} {s : Start} {before : Lent} {r : Built} {after : Lent} {bytes bytes′ : List ℕ} {w : Wrote}
     → Builds L s before r after → r .number ≡ 0
@@ -237,8 +208,8 @@ built-accepted {L} {s} {before} {r} {after} {bytes} {bytes′} {w} b e write f w
     let same = d .bytes ∙ ((λ j. fileBytes (contentOf (L .size) (m .vertices j) (m .triangles j) (m .vertex-words j) (m .triangle-words j))) ∙ same-file L (t .sizes) start (before .vertices) (before .triangles) (length bytes)) in
     let file = fileBytes (contentOf (L .size) nv nt (vertexWords L S) (triangleWords S)) in
     let k : Holds file (L .size) nv nt (vertexWords L S) (triangleWords S) =
-    subst (λ (x : List ℤ). Holds file (L .size) nv nt x (triangleWords S)) (whole (vertexWords L S) (4 * nv) (vertex-words-length L S))
-    (subst (λ (y : List ℕ). Holds file (L .size) nv nt (take (4 * nv) (vertexWords L S)) y) (whole (triangleWords S) (3 * nt) (triangle-words-length S)) q) in
+    subst (λ (x : List ℤ). Holds file (L .size) nv nt x (triangleWords S)) (take-all (4 * nv) (vertexWords L S) (omega (arith, vertex-words-length L S)))
+    (subst (λ (y : List ℕ). Holds file (L .size) nv nt (take (4 * nv) (vertexWords L S)) y) (take-all (3 * nt) (triangleWords S) (omega (arith, triangle-words-length S))) q) in
     subst (λ (x : List ℕ). checked L s x words waiting slots .number ≡ 0) (sym same)
     (accepted-exactly L s file words waiting slots .always
     (record { samples = h; file = ap (λ (v : Verdict). v .number) (k .passes); sizes = k .sizes; holds = holding L (t .sizes) start file k }))

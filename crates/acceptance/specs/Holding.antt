@@ -5,7 +5,7 @@ use mathlib.Core.List.{List, map}
 use Prim.Native.Nat.{ℕ, _<_}
 use lib.Dec.{T}
 use lib.IntN.{ℤ}
-use Rattle.lists.specs.Lists.{range, any, isIn}
+use Rattle.lists.specs.Lists.{range, any, isIn, count}
 use Rattle.paper.specs.declared.Start.{Start}
 use Rattle.paper.specs.Lattice.{Lattice}
 use Rattle.paper.specs.Tables.{Tri}
@@ -14,7 +14,6 @@ use Rattle.paper.specs.Tests.{judge}
 use Rattle.paper.specs.Build.{startOf, sampleTests}
 use Rattle.paper.specs.File.{fileV, fileT, fileSizes, fileVertices, fileTriangles, fileTests}
 use Rattle.paper.specs.Check.{sameNumbers, turned, recordOf, triangleOf, checked}
-use Rattle.pairing.specs.Pairing.{count}
 
 -- a file's records, and its triangles by edges
 unfoldable pub fileRecords : List ℕ → List (List ℤ)

@@ -1,5 +1,5 @@
 -- Tests in order, and what they leave: answers one by one. Assumes nothing.
-use mathlib.Core.Path.{_≡_, refl, sym, ap, subst, _∙_}
+use mathlib.Core.Path.{_≡_, sym, ap, subst, _∙_}
 use mathlib.Core.Bool.{and-false}
 use mathlib.Core.List.{List}
 use Prim.Native.Nat.{ℕ, _<_}
@@ -61,9 +61,6 @@ module _ (L : Lattice) (bs : List ℕ) (n : Counts) (w : Work) where
           )
 
 -- ── what is left past the front ──
-
-pub beyond-same : (n : ℕ) (l : List ℕ) → Beyond n l l
-beyond-same n l = record { same-length = refl; rest = refl }
 
 pub slots-beyond : (L : Lattice) (vs : List ℤ) (nv : ℕ) (slots after : List ℕ) (i : ℕ) → i ≡ firstBadRecord L vs slots nv
     → after ≡ slotsAfter L vs slots i → Beyond (neededSlots (L .size)) slots after

@@ -1,7 +1,7 @@
 -- The answer of a check, and what it leaves, from the answers of its parts. Assumes nothing.
 use mathlib.Core.Path.{_≡_, refl, sym, ap, subst, _∙_}
 use mathlib.Core.Bool.{Bool, true, false, cond, _&&_}
-use mathlib.Core.List.{List, [], _∷_, _++_}
+use mathlib.Core.List.{List, _++_}
 use Prim.Native.Nat.{ℕ, _<_}
 use native.Mathlib.Omega.{arith}
 use lib.Dec.{eqb}
@@ -17,18 +17,19 @@ use Rattle.paper.specs.Lattice.{Lattice, cubes, visited}
 use Rattle.paper.specs.Sheet.{Sheet, numbered, sheetOf}
 use Rattle.paper.specs.Within.{Sized, Full}
 use Rattle.paper.specs.Tests.{Test, verdict, judge}
-use Rattle.paper.specs.Build.{needed, neededSlots, startOf, sampleTests, workAfter}
+use Rattle.paper.specs.Build.{needed, neededSlots, startOf, sampleTests, clears, workAfter}
 use Rattle.paper.specs.File.{fileV, fileT, fileSizes, fileVertices, fileTriangles, fileTests}
 use Rattle.paper.specs.Check.{Work, work, sameSizes, badRecord, badNaming, complete, sheetTests, checked}
-use Rattle.paper.proofs.Judged.{Numbered, numbered-both, judge-past, judge-stop}
+use Rattle.paper.proofs.Judged.{Numbered, numbered-both, judge-past, judge-stop, judge-among}
+use Rattle.paper.proofs.Tested.{recorded, listed}
+use Rattle.paper.proofs.Passing.{sample-numbered, file-numbered, work-kept, work-cleared}
 use Rattle.paper.proofs.Listing.{edges-lt}
 use Rattle.flood.specs.Flooded.{wordOf, Beyond}
 use Rattle.layout.specs.Laid.{LaidOut}
-use Rattle.layout.proofs.Passing.{file-numbered}
 use Rattle.measure.specs.declared.Counts.{Counts}
 use Rattle.measure.specs.Measured.{Measured}
 use Rattle.measure.proofs.Words.{word-at}
-use Rattle.measure.proofs.Slots.{cleared-at, cleared-rest}
+use Rattle.lists.proofs.Stores.{cleared-at, cleared-rest}
 use Rattle.measure.proofs.Measuring.{clear-beyond, undone}
 use Rattle.measure.proofs.Crossed.{slot-used, all-cross}
 use Rattle.records.specs.Records.{firstBadIn as firstBadRecord}
@@ -112,8 +113,8 @@ module _ (L : Lattice) (s : Sized (L .size)) (start : ℕ) (h : start < cubes (L
     counted o f =
         (λ k. eqb (fileV bs) (vertices-are k) && eqb (fileT bs) (triangles-are k))
         ∙ complete-is L s start h vs ts (fileT bs)
-        (λ k l. first-before (badNaming S vs ts) (fileT bs) k (subst (λ (n : ℕ). k < n) (sym f) l)) (fileV bs)
-        (λ k l. first-before (badRecord L S vs) (fileV bs) k (subst (λ (n : ℕ). k < n) (sym o) l))
+        (λ k l. listed S vs ts k (first-before (badNaming S vs ts) (fileT bs) k (subst (λ (n : ℕ). k < n) (sym f) l))) (fileV bs)
+        (λ k l. recorded L S vs k (first-before (badRecord L S vs) (fileV bs) k (subst (λ (n : ℕ). k < n) (sym o) l)))
 
     -- what the work slices tell is what the sheet tells
     pub same-answer : judge (foundTests L bs r (work words blank slots)) ≡ judge (lastTests L start bs)
@@ -150,60 +151,11 @@ module _ (a b c : List Test) where
       let e = judge-past a b n z in
       judge-past (a ++ b) c (numbered-both a b n m) (ap (λ (v : Verdict). v .number) e ∙ y)
 
--- what holds of each test's number, and of 0, holds of the answer's
-judge-among : (P : ℕ → Type 0) (l : List Test) → All (λ t. P (t .otherwise .number)) l → (judge l .number ≡ 0 → P 0) → P (judge l .number)
-judge-among P [] h z = z refl
-judge-among P (t ∷ l) h z = go (t .passed) z (λ q. judge-among P l (h .1) q)
-  where
-    go : (b : Bool) → (cond b (judge l) (t .otherwise) .number ≡ 0 → P 0) → ((judge l .number ≡ 0 → P 0) → P (judge l .number)) → P (cond b (judge l) (t .otherwise) .number)
-    go true q r = r q
-    go false q r = h .0
-
--- where no test has a place, neither has the answer
-judge-placeless : (l : List Test) → All (λ t. t .otherwise .place ≡ 0) l → judge l .place ≡ 0
-judge-placeless [] h = refl
-judge-placeless (t ∷ l) h = go (t .passed) (judge-placeless l (h .1))
-  where
-    go : (b : Bool) → judge l .place ≡ 0 → cond b (judge l) (t .otherwise) .place ≡ 0
-    go true e = e
-    go false e = h .0
-
-module _ (L : Lattice) (s : Start) (w q e : ℕ) where
-  pub sample-numbered : Numbered (sampleTests L s w q e)
-  unfolding sampleTests
-  sample-numbered = (omega arith, (omega arith, (omega arith, (omega arith, (omega arith, tt)))))
-
-  pub sample-answer : (n : ℕ) → n ≡ judge (sampleTests L s w q e) .number → verdict n 0 ≡ judge (sampleTests L s w q e)
-  unfolding sampleTests
-  sample-answer n f = λ k. verdict (f k) (sym (judge-placeless (sampleTests L s w q e) (refl, (refl, (refl, (refl, (refl, tt)))))) k)
-
 -- ── what is left ──
-
--- the answers that clear the work slices
-abbrev pub clears : ℕ → Bool
-clears n = isIn (0 ∷ 6 ∷ 7 ∷ 17 ∷ 18 ∷ 19 ∷ []) n
-
-pub sample-keeps : (L : Lattice) (s : Start) (w q e : ℕ) → (judge (sampleTests L s w q e) .number ≡ 0 → ⊥) → clears (judge (sampleTests L s w q e) .number) ≡ false
-unfolding sampleTests
-sample-keeps L s w q e h =
-    judge-among (λ n. clears n ≡ false) (sampleTests L s w q e) (refl, (refl, (refl, (refl, (refl, tt))))) (λ z. absurd (h z))
-
-pub file-keeps : (bs : List ℕ) → (judge (fileTests bs) .number ≡ 0 → ⊥) → clears (judge (fileTests bs) .number) ≡ false
-unfolding fileTests
-file-keeps bs h = judge-among (λ n. clears n ≡ false) (fileTests bs) (refl, (refl, (refl, (refl, (refl, tt))))) (λ z. absurd (h z))
 
 pub last-clears : (L : Lattice) (start : ℕ) (bs : List ℕ) → clears (judge (lastTests L start bs) .number) ≡ true
 unfolding lastTests sheetTests
 last-clears L start bs = judge-among (λ n. clears n ≡ true) (lastTests L start bs) (refl, (refl, (refl, tt))) (λ z. refl)
-
-module _ (number n : ℕ) (old : List ℕ) where
-  work-kept : clears number ≡ false → old ≡ workAfter number n old
-  unfolding workAfter
-  work-kept e = sym (ap (λ (b : Bool). cond b (cleared n old) old) e)
-
-  work-cleared : clears number ≡ true → cleared n old ≡ workAfter number n old
-  unfolding workAfter
-  work-cleared e = sym (ap (λ (b : Bool). cond b (cleared n old) old) e)
 
 -- the three work slices after an answer
 abbrev pub leftAfter : Sizes → ℕ → Work → Work
@@ -212,12 +164,14 @@ leftAfter z number w =
 
 pub all-kept : (z : Sizes) (number : ℕ) (w : Work) → clears number ≡ false → w ≡ leftAfter z number w
 all-kept z number w e =
-    λ k. work (work-kept number (needed z) (w .words) e k) (work-kept number (needed z) (w .waiting) e k) (work-kept number (neededSlots z) (w .slots) e k)
+    sym
+    (λ k. work (work-kept number (needed z) (w .words) e k) (work-kept number (needed z) (w .waiting) e k) (work-kept number (neededSlots z) (w .slots) e k))
 
 pub all-cleared : (z : Sizes) (number : ℕ) (w : Work) → clears number ≡ true
     → work (cleared (needed z) (w .words)) (cleared (needed z) (w .waiting)) (cleared (neededSlots z) (w .slots)) ≡ leftAfter z number w
 all-cleared z number w e =
-    λ k. work (work-cleared number (needed z) (w .words) e k) (work-cleared number (needed z) (w .waiting) e k) (work-cleared number (neededSlots z) (w .slots) e k)
+    sym
+    (λ k. work (work-cleared number (needed z) (w .words) e k) (work-cleared number (needed z) (w .waiting) e k) (work-cleared number (neededSlots z) (w .slots) e k))
 
 -- ── the whole ──
 

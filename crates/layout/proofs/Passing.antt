@@ -1,36 +1,21 @@
 -- What passing a file's tests gives. Assumes nothing.
-use mathlib.Core.Path.{_≡_, refl, sym, subst, ap, _∙_}
-use mathlib.Core.Bool.{Bool, true, false, cond, _||_}
+use mathlib.Core.Path.{_≡_, refl, sym, subst, _∙_}
+use mathlib.Core.Bool.{Bool, true, false, _||_}
 use mathlib.Core.List.{List}
-use Prim.Native.Nat.{ℕ, zero, suc, _+_, _*_, _/_, _%_, _≤_, _<_}
+use Prim.Native.Nat.{ℕ, zero, suc, _+_, _*_, _/_, _%_, _<_}
 use native.Mathlib.Omega.{arith}
-use borrow.Author.Tests.{leb-false, eqb-true, eqb-false}
-use lib.Arith.{lt-of-le-ne}
-use lib.Dec.{T, leb, eqb}
+use borrow.Author.Tests.{leb-false, eqb-true}
+use lib.Dec.{T, leb}
 use lib.ListN.{getD}
-use Rattle.lists.specs.Lists.{range, first}
+use Rattle.lists.proofs.Firsts.{first-before}
 use Rattle.paper.specs.Tests.{judge}
 use Rattle.paper.specs.File.{badTriangle, firstBad, trailer, fileV, fileT, fileSizes, fileTriangles, fileTests}
-use Rattle.paper.proofs.Judged.{Numbered, Passed, judge-all, sized}
+use Rattle.paper.proofs.Judged.{Passed, judge-all, sized}
+use Rattle.paper.proofs.Passing.{file-numbered}
 use Rattle.layout.specs.Laid.{anyFrom, LaidOut}
-use Rattle.layout.proofs.Trailer.{bad-is, first-missing, ranged}
+use Rattle.layout.proofs.Trailer.{bad-is, bad-missing, ranged}
 
 -- ── 15 ──
-
--- where none is found, none passes
-first-all : (p : ℕ → Bool) (d i n : ℕ) → i + n ≤ d → first p d (range i n) ≡ d → (k : ℕ) → i ≤ k → k < i + n → p k ≡ false
-first-all p d i zero h e k a l = absurd (omega arith)
-first-all p d i (suc n) h e k a l =
-    go (p i) refl e (λ f g. first-all p d (suc i) n (omega arith) f k g (omega arith))
-  where
-    here : (b : Bool) → eqb k i ≡ b → p i ≡ false → (suc i ≤ k → p k ≡ false) → p k ≡ false
-    here true q r f = ap p (eqb-true k i q) ∙ r
-    here false q r f = f (lt-of-le-ne a (λ x. eqb-false k i q (sym x)))
-
-    go : (b : Bool) → p i ≡ b → cond b i (first p d (range (suc i) n)) ≡ d → (first p d (range (suc i) n) ≡ d → suc i ≤ k → p k ≡ false)
-        → p k ≡ false
-    go true q f r = absurd (omega arith)
-    go false q f r = here (eqb k i) refl q (r f)
 
 neither : (a b : Bool) → (a || b) ≡ false → (a ≡ false) × (b ≡ false)
 neither true b e = absurd (subst T e tt)
@@ -46,7 +31,7 @@ below n a b c e =
 module _ (nv nt : ℕ) (ts : List ℕ) (none : firstBad nv nt ts ≡ nt) where
   pub none-bad : (k : ℕ) → k < nt → badTriangle nv ts k ≡ false
   unfolding firstBad
-  none-bad k l = first-all (badTriangle nv ts) nt 0 nt (omega arith) none k (omega arith) (omega arith)
+  none-bad k l = first-before (badTriangle nv ts) nt k (subst (λ (n : ℕ). k < n) (sym none) l)
 
   -- each index is below V
   corner : (k r i : ℕ) → k < nt → r < 3 → i ≡ 3 * k + r → getD ts i 0 < nv
@@ -71,16 +56,12 @@ module _ (nv nt : ℕ) (ts : List ℕ) (none : firstBad nv nt ts ≡ nt) where
 pub first-same : (nv nt : ℕ) (ts us : List ℕ) → ((i : ℕ) → i < 3 * nt → getD us i 0 ≡ getD ts i 0) → firstBad nv nt ts ≡ nt → firstBad nv nt us ≡ nt
 first-same nv nt ts us same none =
     sym
-    (first-missing nv nt us
+    (bad-missing nv nt us
     (λ k h.
     bad-is nv us k
     ∙ (rw (same (3 * k) (omega arith), same (3 * k + 1) (omega arith), same (3 * k + 2) (omega arith)) (sym (bad-is nv ts k)) ∙ none-bad nv nt ts none k h)))
 
 -- ── a file that passes its tests ──
-
-pub file-numbered : (bs : List ℕ) → Numbered (fileTests bs)
-unfolding fileTests
-file-numbered bs = (omega arith, (omega arith, (omega arith, (omega arith, (omega arith, tt)))))
 
 pub passed-laid : (bs : List ℕ) → Passed (fileTests bs) → LaidOut bs
 unfolding fileTests

@@ -4,7 +4,6 @@ use mathlib.Core.Bool.{true, false, _&&_}
 use mathlib.Core.List.{List, map}
 use Prim.Native.Nat.{ℕ, _+_, _*_, _≤_, _<_}
 use native.Mathlib.Nat.{add-zero, zero-add}
-use native.Mathlib.Omega.{arith}
 use borrow.Author.Tests.{leb-true, eqb-true}
 use lib.Dec.{leb, eqb}
 use lib.IntN.{pos}
@@ -12,7 +11,8 @@ use lib.ListN.{length, getD}
 use Rattle.lists.specs.Lists.{range}
 use Rattle.lists.specs.Bytes.{field}
 use Rattle.paper.specs.File.{signed32, trailerAt, fileLength, badTriangle, firstBad, limits, trailer, fileV, fileT, fileVertices, fileTriangles, laidOut}
-use Rattle.lists.proofs.Runs.{first-at, first-none, length-along, at-along}
+use Rattle.lists.proofs.Firsts.{first-found, first-missing}
+use Rattle.lists.proofs.Runs.{length-along, at-along}
 use Rattle.codec.proofs.Runs.{wordAt}
 use Rattle.layout.specs.Laid.{anyFrom, Ranged}
 use Rattle.paper.proofs.Judged.{both}
@@ -47,13 +47,13 @@ unfolding badTriangle
 bad-is nv ts i = ap (λ (k : ℕ). anyFrom nv (getD ts k 0) (getD ts (3 * i + 1) 0) (getD ts (3 * i + 2) 0)) (add-zero (3 * i))
 
 -- the first bad triangle, as a loop over them finds it
-pub first-found : (nv nt : ℕ) (ts : List ℕ) (i : ℕ) → i < nt → ((k : ℕ) → k < i → badTriangle nv ts k ≡ false) → badTriangle nv ts i ≡ true → i ≡ firstBad nv nt ts
+pub bad-found : (nv nt : ℕ) (ts : List ℕ) (i : ℕ) → i < nt → ((k : ℕ) → k < i → badTriangle nv ts k ≡ false) → badTriangle nv ts i ≡ true → i ≡ firstBad nv nt ts
 unfolding firstBad
-first-found nv nt ts i h good bad = sym (first-at (badTriangle nv ts) nt 0 nt i (omega arith) (omega arith) (λ k g l. good k l) bad)
+bad-found nv nt ts i = first-found (badTriangle nv ts) nt i
 
-pub first-missing : (nv nt : ℕ) (ts : List ℕ) → ((k : ℕ) → k < nt → badTriangle nv ts k ≡ false) → nt ≡ firstBad nv nt ts
+pub bad-missing : (nv nt : ℕ) (ts : List ℕ) → ((k : ℕ) → k < nt → badTriangle nv ts k ≡ false) → nt ≡ firstBad nv nt ts
 unfolding firstBad
-first-missing nv nt ts good = sym (first-none (badTriangle nv ts) nt 0 nt (λ k g l. good k (omega arith)))
+bad-missing nv nt ts = first-missing (badTriangle nv ts) nt
 
 -- test 14 by its numbers
 pub laid-is : (bs : List ℕ) (nv nt a b : ℕ) → nv ≡ fileV bs → nt ≡ fileT bs → a ≡ trailer 4 bs 0 → b ≡ trailer 4 bs 8

@@ -3,12 +3,13 @@ use mathlib.Core.Path.{_≡_, refl, sym, ap, subst, _∙_}
 use mathlib.Core.Logic.{_⊎_, inl, inr}
 use mathlib.Core.Bool.{Bool, true, false, _&&_, _||_}
 use mathlib.Core.List.{List, [], _∷_, _++_}
-use Prim.Native.Nat.{ℕ, zero, suc, _≤_, _<_}
+use Prim.Native.Nat.{ℕ, zero, suc, _<_}
 use native.Mathlib.Omega.{arith}
 use lib.Dec.{T, eqb, eqb→eq, eqb-refl}
 use lib.ListN.{length}
 use Rattle.lists.specs.Lists.{range, consIf, keep, any, each, isIn}
 use Rattle.lists.specs.Reach.{Reach, here, step, grow, rounds, reached}
+use Rattle.lists.proofs.Rising.{keep-le}
 use Rattle.lists.proofs.Member.{T→eq, or-cases, or-left, or-right, and-both, and-left, and-right, any-append, any-each, any-in, in-any, in-keep, in-range, range-in}
 
 -- of two tests, the second of which passes where the first does: they keep the same, or the second keeps more
@@ -29,14 +30,6 @@ kept p q [] f = same refl
 kept p q (x ∷ xs) f =
     kept-step x (keep p xs) (keep q xs) (p x) (q x) (f x (or-left (eqb x x) (isIn xs x) (eqb-refl x)))
     (kept p q xs (λ k h. f k (or-right (eqb k x) (isIn xs k) h)))
-
-pub keep-le : (p : ℕ → Bool) (l : List ℕ) → length (keep p l) ≤ length l
-keep-le p [] = omega arith
-keep-le p (x ∷ xs) = go (p x) (keep-le p xs)
-  where
-    go : (b : Bool) → length (keep p xs) ≤ length xs → length (consIf b x (keep p xs)) ≤ suc (length xs)
-    go true h = omega arith
-    go false h = omega arith
 
 some-in : (l : List ℕ) (k : ℕ) → T (isIn l k) → 0 < length l
 some-in [] k t = absurd t

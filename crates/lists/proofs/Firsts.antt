@@ -1,11 +1,12 @@
 -- The first that passes: what comes before it, that it passes, and when two tests have the same first. Assumes nothing.
-use mathlib.Core.Path.{_≡_, refl, ap, _∙_}
+use mathlib.Core.Path.{_≡_, refl, sym, ap, _∙_}
 use mathlib.Core.Bool.{Bool, true, false, cond}
 use Prim.Native.Nat.{ℕ, zero, suc, _+_, _<_}
 use native.Mathlib.Omega.{arith}
 use native.Mathlib.Nat.{zero-add}
 use borrow.Author.Count.{below-none, below-more}
 use Rattle.lists.specs.Lists.{range, first}
+use Rattle.lists.proofs.Runs.{first-at, first-none}
 
 -- what comes before it does not pass
 before-from : (p : ℕ → Bool) (d i n : ℕ) → i + n ≡ d → ((k : ℕ) → k < i → p k ≡ false) → (k : ℕ) → k < first p d (range i n) → p k ≡ false
@@ -18,6 +19,13 @@ before-from p d i (suc n) e f k h = go (p i) refl h (λ q g. before-from p d (su
 
 pub first-before : (p : ℕ → Bool) (n k : ℕ) → k < first p n (range 0 n) → p k ≡ false
 first-before p n k h = before-from p n 0 n (omega arith) (below-none (λ k. p k ≡ false)) k h
+
+-- it is the number that passes and before which none does, or none of the run
+pub first-found : (p : ℕ → Bool) (n i : ℕ) → i < n → ((k : ℕ) → k < i → p k ≡ false) → p i ≡ true → i ≡ first p n (range 0 n)
+first-found p n i h good bad = sym (first-at p n 0 n i (omega arith) (omega arith) (λ k g l. good k l) bad)
+
+pub first-missing : (p : ℕ → Bool) (n : ℕ) → ((k : ℕ) → k < n → p k ≡ false) → n ≡ first p n (range 0 n)
+first-missing p n good = sym (first-none p n 0 n (λ k g l. good k (omega arith)))
 
 -- where it is one of the run, it passes
 pub first-holds : (p : ℕ → Bool) (d i n : ℕ) → first p d (range i n) < d → p (first p d (range i n)) ≡ true

@@ -5,6 +5,8 @@ pub mod Rising
 pub mod Runs
 pub mod Firsts
 pub mod Closure
+pub mod Within
+pub mod Counts
 pub mod Computed
 pub mod Stores
 pub mod Filled

@@ -27,12 +27,12 @@ keep-rising p i (suc n) = go (p i) (keep-rising p (suc i) n)
     go true r = (omega arith, r)
     go false r = lower i (suc i) (keep p (range (suc i) n)) (omega arith) r
 
--- ranks
-pub rank-le : (l : List ℕ) (n : ℕ) → rank l n ≤ length l
-rank-le [] n = omega arith
-rank-le (x ∷ xs) n = go (ltb x n) (rank-le xs n)
+-- what is kept is no longer
+pub keep-le : (p : ℕ → Bool) (l : List ℕ) → length (keep p l) ≤ length l
+keep-le p [] = omega arith
+keep-le p (x ∷ xs) = go (p x) (keep-le p xs)
   where
-    go : (b : Bool) → rank xs n ≤ length xs → length (consIf b x (keep (λ m. ltb m n) xs)) ≤ suc (length xs)
+    go : (b : Bool) → length (keep p xs) ≤ length xs → length (consIf b x (keep p xs)) ≤ suc (length xs)
     go true h = omega arith
     go false h = omega arith
 
@@ -44,5 +44,5 @@ rank-lt (x ∷ xs) n t = go (ltb x n) refl (or-cases (eqb n x) (isIn xs n) t) (�
         → length (consIf b x (keep (λ m. ltb m n) xs)) < suc (length xs)
     go true e (inl q) f = absurd (omega (arith, eqb→eq n x q, ltb→lt x n (eq→T e)))
     go true e (inr r) f = omega (arith, f r)
-    go false e (inl q) f = omega (arith, rank-le xs n)
+    go false e (inl q) f = omega (arith, keep-le (λ m. ltb m n) xs)
     go false e (inr r) f = omega (arith, f r)

@@ -2,15 +2,17 @@
 use mathlib.Core.Path.{_≡_, refl, sym, ap, _∙_}
 use mathlib.Core.Logic.{_⊎_, inl, inr}
 use mathlib.Core.Bool.{Bool, true, false, cond, _||_, or-false}
-use mathlib.Core.List.{List, [], _∷_, _++_, map, append-assoc, map-append}
-use Prim.Native.Nat.{ℕ, zero, suc, _+_, _≤_, _<_}
+use mathlib.Core.List.{List, [], _∷_, _++_, map, append-assoc, append-nil, map-append}
+use Prim.Native.Nat.{ℕ, zero, suc, _+_, _-_, _≤_, _<_}
 use native.Mathlib.Omega.{arith}
 use native.Mathlib.Nat.{add-zero, zero-add}
+use native.Mathlib.Numerals.{add-one}
 use lib.Dec.{T, eqb, ltb, eqb→eq}
-use lib.ListN.{length, getD}
+use lib.ListN.{length, getD, drop, length-append, List·getD-append}
+use lib.Seq.{ext-getD}
 use lib.Arith.{lt-of-le-ne}
 use borrow.Author.Tests.{lt-ltb, le-ltb, eqb-true, eqb-false}
-use Rattle.lists.specs.Lists.{range, consIf, keep, any, each, isIn, first, rank}
+use Rattle.lists.specs.Lists.{range, consIf, keep, any, each, isIn, first, rank, over}
 use Rattle.lists.proofs.Member.{or-cases, any-append}
 use Rattle.lists.proofs.Rising.{Rising, keep-rising}
 
@@ -20,6 +22,13 @@ range-snoc i (suc n) = ap (λ (l : List ℕ). i ∷ l) (range-snoc (suc i) n ∙
 
 pub range-more : (n : ℕ) → range 0 (suc n) ≡ range 0 n ++ (n ∷ [])
 range-more n = range-snoc 0 n ∙ ap (λ (k : ℕ). range 0 n ++ k ∷ []) (zero-add n)
+
+pub range-join : (a m n : ℕ) → range a (m + n) ≡ range a m ++ range (a + m) n
+range-join a zero n = (λ i. range (sym (add-zero a) i) (zero-add n i))
+range-join a (suc m) n =
+    let e : suc m + n ≡ suc (m + n) = omega arith in
+    let f : suc a + m ≡ a + suc m = omega arith in
+    ap (range a) e ∙ ap (λ (l : List ℕ). a ∷ l) (range-join (suc a) m n ∙ ap (λ (b : ℕ). range (suc a) m ++ range b n) f)
 
 module _ {A : Type 0} (p : A → Bool) where
   pub keep-append : (l m : List A) → keep p (l ++ m) ≡ keep p l ++ keep p m
@@ -42,6 +51,21 @@ module _ {A B : Type 0} (f : A → List B) where
   pub each-append : (l m : List A) → each f (l ++ m) ≡ each f l ++ each f m
   each-append [] m = refl
   each-append (x ∷ xs) m = ap (λ (l : List B). f x ++ l) (each-append xs m) ∙ sym (append-assoc (f x) (each f xs) (each f m))
+
+-- one more of a run
+pub each-more : {A : Type 0} (f : ℕ → List A) (k : ℕ) → each f (range 0 (k + 1)) ≡ each f (range 0 k) ++ f k
+each-more f k =
+    ap (λ (n : ℕ). each f (range 0 n)) (add-one k)
+    ∙ (ap (each f) (range-more k)
+    ∙ (each-append f (range 0 k) (k ∷ []) ∙ ap (λ (l : List _). each f (range 0 k) ++ l) (append-nil (f k))))
+
+-- a longer run makes no less
+pub each-prefix : {A : Type 0} (f : ℕ → List A) (m n : ℕ) → m ≤ n → length (each f (range 0 m)) ≤ length (each f (range 0 n))
+each-prefix f m n h =
+    let r = range 0 m in
+    let s = range (0 + m) (n - m) in
+    let e : m + (n - m) ≡ n = omega arith in
+    omega (arith, ap (λ (k : ℕ). length (each f (range 0 k))) e, ap (λ (l : List ℕ). length (each f l)) (range-join 0 m (n - m)), ap length (each-append f r s), length-append (each f r) (each f s))
 
 -- the first that passes
 pub first-none : (p : ℕ → Bool) (d i n : ℕ) → ((k : ℕ) → i ≤ k → k < i + n → p k ≡ false) → first p d (range i n) ≡ d
@@ -110,6 +134,17 @@ module _ {A : Type 0} (f : ℕ → A) where
 
   pub along-snoc : (n : ℕ) → map f (range 0 (suc n)) ≡ map f (range 0 n) ++ (f n ∷ [])
   along-snoc n = ap (map f) (range-more n) ∙ map-append f (range 0 n) (n ∷ [])
+
+  -- written over the front of a list
+  pub over-along : (d : A) (n : ℕ) (old : List A) (j : ℕ) → j < n → getD (over (map f (range 0 n)) old) j d ≡ f j
+  over-along d n old j h =
+      List·getD-append (map f (range 0 n)) (drop (length (map f (range 0 n))) old) d j (omega (arith, length-along 0 n)) ∙ at-along d n j h
+
+-- a list along its places
+pub along-list : {A : Type 0} (l : List A) (d : A) → map (λ i. getD l i d) (range 0 (length l)) ≡ l
+along-list l d =
+    ext-getD d (map (λ i. getD l i d) (range 0 (length l))) l (length-along (λ i. getD l i d) 0 (length l))
+    (λ i h. at-along (λ i. getD l i d) d (length l) i (omega (arith, length-along (λ i. getD l i d) 0 (length l))))
 
 -- in a rising list, a number's rank is its place
 pub rising-ge : (l : List ℕ) (b e : ℕ) → Rising b l → T (isIn l e) → b ≤ e

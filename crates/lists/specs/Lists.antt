@@ -3,7 +3,7 @@ use mathlib.Core.Bool.{Bool, true, false, cond, _&&_, _||_}
 use mathlib.Core.List.{List, [], _∷_, _++_}
 use Prim.Native.Nat.{ℕ, zero, suc}
 use lib.Dec.{eqb, ltb}
-use lib.ListN.{length, drop, replicate}
+use lib.ListN.{length, set, drop, replicate}
 
 -- i, i + 1, .., n numbers
 abbrev pub range : ℕ → ℕ → List ℕ
@@ -19,6 +19,10 @@ module _ {A : Type 0} where
   abbrev pub keep : (A → Bool) → List A → List A
   keep p [] = []
   keep p (x ∷ xs) = consIf (p x) x (keep p xs)
+
+  -- how many pass
+  abbrev pub count : (A → Bool) → List A → ℕ
+  count p l = length (keep p l)
 
   abbrev pub any : (A → Bool) → List A → Bool
   any p [] = false
@@ -43,12 +47,17 @@ isIn l n = any (eqb n) l
 
 -- how many of the list are below n
 abbrev pub rank : List ℕ → ℕ → ℕ
-rank l n = length (keep (λ m. ltb m n) l)
+rank l n = count (λ m. ltb m n) l
 
 -- the first that passes, or d
 abbrev pub first : (ℕ → Bool) → ℕ → List ℕ → ℕ
 first p d [] = d
 first p d (x ∷ xs) = cond (p x) x (first p d xs)
+
+-- v at each of these places
+abbrev pub stored : ℕ → List ℕ → List ℕ → List ℕ
+stored v [] l = l
+stored v (e ∷ es) l = stored v es (set l e v)
 
 -- the first n numbers of a list are 0, the rest as it was
 abbrev pub cleared : ℕ → List ℕ → List ℕ

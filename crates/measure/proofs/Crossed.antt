@@ -1,33 +1,28 @@
 -- The numbered slots: the used ones are those of the sheet's edges, and each of these is side-changing. Assumes nothing.
 use mathlib.Core.Path.{_≡_, refl, sym, ap, subst, _∙_}
-use mathlib.Core.Logic.{inl, inr}
 use mathlib.Core.Bool.{Bool, true, false, cond, not, xor}
 use mathlib.Core.List.{List}
 use Prim.Native.Nat.{ℕ, _+_, _/_, _%_, _<_}
 use native.Mathlib.Omega.{arith}
 use native.Mathlib.Numerals.{add-one}
 use lib.Dec.{T, eqb, eqb·suc-zero}
-use lib.ListN.{length, getD, drop, List·getD-append}
+use lib.ListN.{getD}
 use Rattle.lists.specs.Lists.{each, isIn, rank, over}
-use Rattle.lists.proofs.Member.{T→eq, xor-turn, any-each, any-in}
+use Rattle.lists.proofs.Member.{T→eq, any-each, any-in}
 use Rattle.lists.proofs.Every.{all-in}
-use Rattle.lists.proofs.Runs.{at-along}
+use Rattle.lists.proofs.Runs.{over-along}
 use Rattle.paper.specs.declared.Place.{Place}
-use Rattle.paper.specs.Lattice.{Lattice, sampleAt, airAt, corner, cubes, cubeAt, visited}
-use Rattle.paper.specs.Tables.{Ends}
-use Rattle.paper.specs.Sheet.{edgeNo, split, cubeEdges, sheetOf}
+use Rattle.paper.specs.Lattice.{Lattice, sampleAt, airAt, cubes, visited}
+use Rattle.paper.specs.Sheet.{split, cubeEdges, sheetOf}
 use Rattle.paper.specs.Build.{neededSlots}
-use Rattle.paper.specs.Within.{Sized, SampleIn, CubeIn}
-use Rattle.paper.proofs.Numbers.{cube-inside, corner-inside}
-use Rattle.paper.proofs.Tables.{kindHas, kinds-found, on-cube-edges}
-use Rattle.paper.proofs.Edges.{anchorOf, endsOf, Joined, edge-ends, in-cube, both-in}
+use Rattle.paper.specs.Within.{Sized, SampleIn}
+use Rattle.paper.proofs.Edges.{anchorOf, endsOf, Joined, cube-edges-join}
 use Rattle.paper.proofs.Listing.{edges-exactly, visits-lt}
 use Rattle.crossing.specs.Vertex.{Crosses}
 use Rattle.crossing.specs.Vertex as C
 use Rattle.survey.specs.Marks.{used}
 use Rattle.measure.specs.Measured.{slotsOf}
 use Rattle.measure.specs.Crossed.{AllCross}
-use Rattle.measure.proofs.Measuring.{slots-length}
 
 -- ── every vertex edge crosses ──
 
@@ -36,29 +31,14 @@ CrossesNo L n = Crosses L (sampleAt (L .size) (n / 7)) (n % 7)
 
 -- the two ends of an edge's number, where they are samples on different sides
 crosses-at : (L : Lattice) (n : ℕ) (u v : Place) → Joined (L .size) n u v → SampleIn (L .size) u → SampleIn (L .size) v
-    → xor (airAt L u) (airAt L v) ≡ true → CrossesNo L n
+    → T (xor (airAt L u) (airAt L v)) → CrossesNo L n
 unfolding anchorOf endsOf C.endsOf split
 crosses-at L n u v j hu hv x = record {
   kind = omega arith;
   first = subst (SampleIn (L .size)) (sym (j .first)) hu;
   second = subst (SampleIn (L .size)) (sym (j .second)) hv;
-  sides = (λ i. xor (airAt L (j .first i)) (airAt L (j .second i))) ∙ x;
+  sides = (λ i. xor (airAt L (j .first i)) (airAt L (j .second i))) ∙ T→eq (xor (airAt L u) (airAt L v)) x;
 }
-
-edge-crosses : (L : Lattice) (p : Place) → CubeIn (L .size) p → (e : Ends) → T (kindHas e) → T (split L p e) → CrossesNo L (edgeNo (L .size) p e)
-unfolding split
-edge-crosses L p hp e hk hs =
-    let z = L .size in
-    let g = both-in e (in-cube e hk) in
-    let u = corner p (e .a) in
-    let v = corner p (e .b) in
-    let hu = corner-inside z p hp (e .a) (g .0) in
-    let hv = corner-inside z p hp (e .b) (g .1) in
-    let x = T→eq (xor (airAt L u) (airAt L v)) hs in
-    elim (edge-ends z p hp e hk) [
-      | inl j ↦ crosses-at L (edgeNo z p e) u v j hu hv x
-      | inr j ↦ crosses-at L (edgeNo z p e) v u j hv hu (xor-turn (airAt L v) (airAt L u) ∙ x)
-    ]
 
 -- ── the slots of a sheet ──
 
@@ -72,10 +52,7 @@ module _ (L : Lattice) (s : Sized (L .size)) (start : ℕ) (slots s₀ : List �
 
   pub slot-at : (k : ℕ) → k < n → getD slots k 0 ≡ cond (isIn es k) (rank es k + 1) 0
   unfolding slotsOf
-  slot-at k h =
-      ap (λ (l : List ℕ). getD l k 0) e
-      ∙ (List·getD-append (slotsOf (L .size) es) (drop (length (slotsOf (L .size) es)) s₀) 0 k (omega (arith, slots-length (L .size) es))
-      ∙ at-along (λ e. cond (isIn es e) (rank es e + 1) 0) 0 n k h)
+  slot-at k h = ap (λ (l : List ℕ). getD l k 0) e ∙ over-along (λ e. cond (isIn es e) (rank es e + 1) 0) 0 n s₀ k h
 
   pub slot-used : (k : ℕ) → k < n → used slots k ≡ isIn es k
   unfolding used
@@ -94,6 +71,5 @@ module _ (L : Lattice) (s : Sized (L .size)) (start : ℕ) (slots s₀ : List �
         let a = any-in (λ c. isIn (cubeEdges L c) k) vs (subst T (any-each (eqb k) (cubeEdges L) vs) u) in
         let c = a .0 in
         let hc = all-in (λ k. k < cubes (L .size)) vs (visits-lt L s start) c (a .1 .0) in
-        all-in (CrossesNo L) (cubeEdges L c)
-        (on-cube-edges kindHas kinds-found (CrossesNo L) L c (edge-crosses L (cubeAt (L .size) c) (cube-inside (L .size) s c hc))) k (a .1 .1);
+        all-in (CrossesNo L) (cubeEdges L c) (cube-edges-join L s c hc (CrossesNo L) (crosses-at L)) k (a .1 .1);
   }

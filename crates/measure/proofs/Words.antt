@@ -5,23 +5,22 @@ use mathlib.Core.List.{List, []}
 use Prim.Native.Nat.{ℕ, _+_, _%_, _<_}
 use native.Mathlib.Omega.{arith}
 use lib.Dec.{T, eqb}
-use lib.ListN.{length, getD, drop, List·getD-append}
+use lib.ListN.{length, getD}
 use borrow.Author.Tests.{eq-eqb, ne-eqb}
 use Rattle.lists.specs.Lists.{range, keep, any, each, isIn, over}
 use Rattle.lists.proofs.Member.{and-left, and-right, and-both, any-each, any-in, in-any, in-range, range-in}
 use Rattle.lists.proofs.Every.{all-keep, in-all, each-same, map-same-in, each-keep}
-use Rattle.lists.proofs.Closure.{bool-same, reached-kept}
-use Rattle.lists.proofs.Runs.{length-along, at-along}
+use Rattle.lists.proofs.Closure.{bool-same}
+use Rattle.lists.proofs.Runs.{length-along, at-along, over-along}
 use Rattle.paper.specs.declared.Sizes.{Sizes}
-use Rattle.paper.specs.Lattice.{Lattice, cubes, cubeAt, steps, visited}
+use Rattle.paper.specs.Lattice.{Lattice, cubes, visited}
 use Rattle.paper.specs.Sheet.{cubeEdges, cubeTriangles}
-use Rattle.paper.proofs.Visits.{visited-lt}
-use Rattle.sides.specs.Pattern.{patternAt}
-use Rattle.sides.proofs.Laws.{pattern-lt}
+use Rattle.paper.proofs.Visits.{visited-kept, visited-lt}
 use Rattle.flood.specs.Flooded.{wordOf, wordsOf}
 use Rattle.tetra.specs.Cut.{localSplit, localStep, localSteps, edgesBy, trianglesBy}
-use Rattle.tetra.proofs.Laws.{cube-triangles-by, cube-edges-by}
-use Rattle.survey.specs.Marks.{baseOf, edgesFrom, edgesWord, edgesIn, trianglesIn, edgesUpto, trianglesUpto}
+use Rattle.tetra.proofs.Laws.{cube-edges-by}
+use Rattle.survey.specs.Marks.{baseOf, edgesFrom, edgesWord, edgesIn, trianglesWord, trianglesIn, edgesUpto, trianglesUpto}
+use Rattle.survey.proofs.Cubes.{Worded, worded}
 
 -- the edges by the steps are those of the definitions
 edges-from : (z : Sizes) (base m : ℕ) → edgesFrom (localSteps z) base m ≡ edgesBy z base m
@@ -44,23 +43,18 @@ module _ (L : Lattice) (start : ℕ) (words w₀ : List ℕ) (e : words ≡ over
 
   pub word-at : (k : ℕ) → k < cubes z → getD words k 0 ≡ cond (isIn vs k) (wordOf L k) 0
   unfolding wordsOf
-  word-at k h =
-      ap (λ (l : List ℕ). getD l k 0) e
-      ∙ (List·getD-append (wordsOf L vs) (drop (length (wordsOf L vs)) w₀) 0 k (omega (arith, words-length L vs)) ∙ at-along (λ k. cond (isIn vs k) (wordOf L k) 0) 0 (cubes z) k h)
+  word-at k h = ap (λ (l : List ℕ). getD l k 0) e ∙ over-along (λ k. cond (isIn vs k) (wordOf L k) 0) 0 (cubes z) w₀ k h
 
-  -- a visited cube's word holds its pattern, another's is 0
-  visited-word : (k : ℕ) → k < cubes z → isIn vs k ≡ true → (getD words k 0 ≡ 0 → ⊥) × (getD words k 0 % 256 ≡ patternAt L (cubeAt z k))
-  unfolding wordOf
-  visited-word k h t =
-      let w : getD words k 0 ≡ 256 + patternAt L (cubeAt z k) = word-at k h ∙ ap (λ (b : Bool). cond b (wordOf L k) 0) t in
-      (λ q. omega (arith, w, q), omega (arith, w, pattern-lt L (cubeAt z k)))
+  -- a visited cube's word is its own, another's is 0
+  visited-word : (k : ℕ) → k < cubes z → isIn vs k ≡ true → Worded L (getD words k 0) k
+  visited-word k h t = worded L k (getD words k 0) (word-at k h ∙ ap (λ (b : Bool). cond b (wordOf L k) 0) t)
 
   other-word : (k : ℕ) → k < cubes z → isIn vs k ≡ false → getD words k 0 ≡ 0
   other-word k h t = word-at k h ∙ ap (λ (b : Bool). cond b (wordOf L k) 0) t
 
   -- a cube's triangles and edges, by its word
   triangles-of : (k : ℕ) → k < cubes z → trianglesIn z words k ≡ cond (isIn vs k) (cubeTriangles L k) []
-  unfolding trianglesIn baseOf
+  unfolding trianglesIn trianglesWord
   triangles-of k h = go (isIn vs k) refl
     where
       put : (b : Bool) → eqb (getD words k 0) 0 ≡ b → cond (eqb (getD words k 0) 0) [] (trianglesBy z (baseOf z k) (getD words k 0 % 256)) ≡ cond b [] (trianglesBy z (baseOf z k) (getD words k 0 % 256))
@@ -69,7 +63,7 @@ module _ (L : Lattice) (start : ℕ) (words w₀ : List ℕ) (e : words ≡ over
       go : (b : Bool) → isIn vs k ≡ b → cond (eqb (getD words k 0) 0) [] (trianglesBy z (baseOf z k) (getD words k 0 % 256)) ≡ cond b (cubeTriangles L k) []
       go true t =
           let w = visited-word k h t in
-          put false (ne-eqb (getD words k 0) 0 (w .0)) ∙ (ap (trianglesBy z (baseOf z k)) (w .1) ∙ cube-triangles-by L k)
+          put false (ne-eqb (getD words k 0) 0 (w .some)) ∙ w .triangles
       go false t = put true (eq-eqb (getD words k 0) 0 (other-word k h t))
 
   edges-of : (k n : ℕ) → k < cubes z → isIn (edgesIn z words k) n ≡ (isIn vs k && isIn (cubeEdges L k) n)
@@ -83,13 +77,9 @@ module _ (L : Lattice) (start : ℕ) (words w₀ : List ℕ) (e : words ≡ over
       go : (b : Bool) → isIn vs k ≡ b → isIn (edgesWord (localSteps z) (baseOf z k) (getD words k 0)) n ≡ (b && isIn (cubeEdges L k) n)
       go true t =
           let w = visited-word k h t in
-          put false (ne-eqb (getD words k 0) 0 (w .0))
-          ∙ (ap (λ (l : List ℕ). isIn l n) (edges-from z (baseOf z k) (getD words k 0 % 256) ∙ ap (edgesBy z (baseOf z k)) (w .1)) ∙ cube-edges-by L k n)
+          put false (ne-eqb (getD words k 0) 0 (w .some))
+          ∙ (ap (λ (l : List ℕ). isIn l n) (edges-from z (baseOf z k) (getD words k 0 % 256) ∙ ap (edgesBy z (baseOf z k)) (w .pattern)) ∙ cube-edges-by L k n)
       go false t = put true (eq-eqb (getD words k 0) 0 (other-word k h t))
-
-  visits-kept : vs ≡ keep (isIn vs) (range 0 (cubes z))
-  unfolding visited
-  visits-kept = reached-kept (steps L) (cubes z) start
 
   -- the triangles of all cubes are the sheet's
   pub all-triangles : trianglesUpto z words (cubes z) ≡ each (cubeTriangles L) vs
@@ -97,7 +87,7 @@ module _ (L : Lattice) (start : ℕ) (words w₀ : List ℕ) (e : words ≡ over
   all-triangles =
       each-same (trianglesIn z words) (λ k. cond (isIn vs k) (cubeTriangles L k) []) (range 0 (cubes z))
       (in-all (λ k. trianglesIn z words k ≡ cond (isIn vs k) (cubeTriangles L k) []) (range 0 (cubes z)) (λ k t. triangles-of k (omega (arith, range-in 0 (cubes z) k t))))
-      ∙ (sym (each-keep (cubeTriangles L) (isIn vs) (range 0 (cubes z))) ∙ ap (each (cubeTriangles L)) (sym visits-kept))
+      ∙ (sym (each-keep (cubeTriangles L) (isIn vs) (range 0 (cubes z))) ∙ ap (each (cubeTriangles L)) (sym (visited-kept L start)))
 
   -- the edges of all cubes are those that have a vertex
   pub all-edges : (n : ℕ) → isIn (edgesUpto z words (cubes z)) n ≡ isIn (each (cubeEdges L) vs) n

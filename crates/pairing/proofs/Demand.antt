@@ -11,11 +11,11 @@ use Rattle.paper.specs.Tests.{judge, verdict}
 use Rattle.paper.specs.Build.{startOf, sampleTests}
 use Rattle.paper.specs.File.{fileV, fileVertices}
 use Rattle.paper.specs.Check.{edgeOf, checked}
+use Rattle.paper.proofs.Passing.{sample-tests, Accepted, accepted}
 use Rattle.pairing.specs.Pairing.{outer, Paired, Demand3, fileEdges, fileCorners}
 use Rattle.pairing.proofs.Sheets.{by-edge}
 use Rattle.pairing.proofs.Built
 use Rattle.pairing.proofs.Files
-use Rattle.pairing.proofs.Tests.{sample-tests, Accepted, accepted}
 
 -- a lattice and a start that pass tests 1 to 5
 module _ (L : Lattice) (s : Start) (words waiting slots : ℕ) (e : judge (sampleTests L s words waiting slots) .number ≡ 0) where

@@ -14,10 +14,11 @@ use Rattle.paper.specs.Tables.{Ends, Tet, Tri, ends, tri, tets, rows, tetEdges,
 use Rattle.paper.specs.Sheet.{edgeNo, tetEdge, triEdges, rowOf}
 use Rattle.paper.proofs.Numbers.{sample-place}
 use Rattle.paper.proofs.Tables.{kind-lt}
+use Rattle.paper.proofs.Listing.{named}
 use Rattle.pairing.specs.Pairing.{around}
 use Rattle.pairing.specs.Visitable.{trianglesAt}
-use Rattle.pairing.proofs.Count.{map-each}
-use Rattle.pairing.proofs.Names.{named, namedArrow, around-named}
+use Rattle.lists.proofs.Within.{map-each}
+use Rattle.pairing.proofs.Names.{namedArrow, around-named}
 use Rattle.pairing.proofs.Table.{code, codeAt, codeTri, trisIn, arrowsIn, Moved, Shape}
 
 -- the number of the edge that has the code u from the corner at p

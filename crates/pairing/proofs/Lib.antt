@@ -1,5 +1,5 @@
 -- Demand 3, proved.
-pub mod Count
+pub mod Arrows
 pub mod Table
 pub mod Edges
 pub mod Sides
@@ -10,6 +10,5 @@ pub mod Vertices
 pub mod Names
 pub mod Built
 pub mod Turned
-pub mod Tests
 pub mod Files
 pub mod Demand

@@ -1,19 +1,20 @@
 -- Triangles whose corners are named otherwise: where names tell corners apart, pairing by names is pairing by corners. Assumes nothing.
 use mathlib.Core.Path.{_≡_, refl, sym, ap, _∙_, subst}
 use mathlib.Core.Bool.{Bool}
-use mathlib.Core.List.{List, _∷_, map, List·Memᴰ as In, List·Memᴰ·head as here, List·Memᴰ·tail as there, Memᴰ·cast}
-use Prim.Native.Nat.{ℕ, zero, suc, _<_}
+use mathlib.Core.List.{List, map, List·Memᴰ as In, List·Memᴰ·head as here, List·Memᴰ·tail as there}
+use Prim.Native.Nat.{ℕ, zero, suc, _≤_, _<_}
 use native.Mathlib.Omega.{arith}
+use lib.Dec.{eqb, eqb-refl}
 use lib.ListN.{length, getD}
-use Rattle.lists.specs.Lists.{each}
+use Rattle.lists.specs.Lists.{each, count}
 use Rattle.lists.proofs.Every.{each-map}
 use Rattle.lists.proofs.Closure.{bool-same}
-use Rattle.paper.specs.Tables.{Tri, tri}
-use Rattle.pairing.specs.Pairing.{count, Arrow, arrow, around, isArrow, times, Paired}
-use Rattle.pairing.proofs.Count.{map-each, is-arrow, arrow-is, pick, count-map, count-same, each-in, nth-in, Unique, none, more}
-
-unfoldable pub named : (ℕ → ℕ) → Tri → Tri
-named f t = tri (f (t .a)) (f (t .b)) (f (t .c))
+use Rattle.paper.specs.Tables.{Tri}
+use Rattle.paper.proofs.Listing.{Below, named}
+use Rattle.pairing.specs.Pairing.{Arrow, arrow, around, isArrow, times, Paired}
+use Rattle.lists.proofs.Within.{eqb-of, map-each, each-in, nth-in}
+use Rattle.lists.proofs.Counts.{pick, count-map, count-same, count-unique, one-place, Unique}
+use Rattle.pairing.proofs.Arrows.{is-arrow, arrow-is}
 
 unfoldable pub namedArrow : (ℕ → ℕ) → Arrow → Arrow
 namedArrow f d = arrow (f (d .from)) (f (d .to))
@@ -22,6 +23,14 @@ pub around-named : (f : ℕ → ℕ) (l : List Tri) → each around (map (named 
 unfolding around named namedArrow
 around-named f l = each-map around (named f) l ∙ sym (map-each (namedArrow f) around l)
 
+-- a directed edge occurs at most once
+pub few-times : {apart : ℕ → ℕ → Bool} {ts : List Tri} → Paired apart ts → (m n : ℕ) → times ts m n ≤ 1
+few-times {ts = ts} p m n = go (times ts m n) refl
+  where
+    go : (k : ℕ) → times ts m n ≡ k → times ts m n ≤ 1
+    go zero e = omega arith
+    go (suc k) e = omega (arith, p .once m n (omega arith))
+
 -- triangles with the same directed edges
 pub paired-same : {apart : ℕ → ℕ → Bool} {ts us : List Tri} → ((m n : ℕ) → times ts m n ≡ times us m n) → Paired apart us → Paired apart ts
 paired-same h p = record {
@@ -29,18 +38,10 @@ paired-same h p = record {
   reverse = λ m n k. h n m ∙ p .reverse m n (omega (arith, h m n));
 }
 
--- the corners of a triangle are below n
-pub record Below (n : ℕ) (t : Tri) : Type 0 where
-  pub a : t .a < n
-  pub b : t .b < n
-  pub c : t .c < n
-
 unique-at : {l : List ℕ} → Unique l → (i j d : ℕ) → i < length l → j < length l → getD l i d ≡ getD l j d → i ≡ j
-unique-at (more n u) zero zero d h k e = refl
-unique-at {l = x ∷ l} (more n u) zero (suc j) d h k e = absurd (n (Memᴰ·cast e (nth-in l j d (omega arith))))
-unique-at {l = x ∷ l} (more n u) (suc i) zero d h k e = absurd (n (Memᴰ·cast (sym e) (nth-in l i d (omega arith))))
-unique-at (more n u) (suc i) (suc j) d h k e = ap suc (unique-at u i j d (omega arith) (omega arith) e)
-unique-at none i j d h k e = absurd (omega arith)
+unique-at {l} u i j d h k e =
+    let x = getD l i d in
+    one-place (eqb x) l d i j (omega (arith, count-unique u (nth-in l i d h))) h k (eqb-refl x) (eqb-of e)
 
 -- vertices named by a list without a repeat
 module _ (es : List ℕ) (distinct : Unique es) (ts : List Tri) (below : (t : Tri) → In t ts → Below (length es) t) where

@@ -19,7 +19,7 @@ use Rattle.paper.specs.Tables.{ends, kinds}
 use Rattle.paper.proofs.Visits.{in-lattice, lattice-in}
 use Rattle.pairing.specs.Pairing.{edgeEnds, inOuterFace, outer}
 use Rattle.pairing.specs.Visitable.{meet, shared, inUnshared, unshared}
-use Rattle.pairing.proofs.Count.{T→false, eqb-of, at-any, all-in, all-map}
+use Rattle.lists.proofs.Within.{T→false, eqb-of, any-member, all-in, all-map}
 use Rattle.pairing.proofs.Table.{span, flat, flatX, flatY, flatZ}
 use Rattle.pairing.proofs.Edges.{number, Edge, kind-of, anchor-of}
 use Rattle.pairing.proofs.Sides.{Known}
@@ -43,7 +43,7 @@ level g m h v ps t = bool-same (all (λ p. eqb (g p) v) (map (add m) ps)) (all (
 
     to : T (all (λ p. eqb (g p) v) (map (add m) ps)) → T (all (λ q. eqb (g q) 0) ps && eqb (g m) v)
     to s =
-        let o = at-any (λ q. eqb (g q) 0) ps t in
+        let o = any-member (λ q. eqb (g q) 0) ps t in
         let e : g (o .0) ≡ 0 = eqb→eq (g (o .0)) 0 (o .2) in
         let b : g m + g (o .0) ≡ v = at s (o .0) (o .1) in
         let a : g m ≡ v = omega arith in

@@ -7,10 +7,9 @@ use native.Mathlib.Omega.{arith}
 use lib.Dec.{T, eqb, eqb-refl}
 use Rattle.lists.specs.Lists.{range, consIf, keep, each, isIn}
 use Rattle.lists.proofs.Every.{each-map}
-use Rattle.lists.specs.Reach.{here as arrived, step, reached}
 use Rattle.lists.proofs.Member.{T→eq, or-left, both3, any-each}
 use Rattle.lists.proofs.Rising.{keep-rising}
-use Rattle.lists.proofs.Closure.{sound, complete, closed, marks-are}
+use Rattle.lists.proofs.Closure.{closed}
 use Rattle.paper.specs.declared.Sizes.{Sizes}
 use Rattle.paper.specs.declared.Place.{Place}
 use Rattle.paper.specs.Lattice.{Lattice, airAt, cubes, cubeNo, cubeAt, corner, mixed, mixedAt, inLattice, Face, faces, stepOver, steps, visited}
@@ -18,10 +17,11 @@ use Rattle.paper.specs.Within.{Sized, CubeIn}
 use Rattle.paper.specs.Tables.{Tri}
 use Rattle.paper.specs.Sheet.{rowAt, cubeTriangles, sheetOf}
 use Rattle.paper.proofs.Numbers.{cube-place, cube-inside, cube-back}
-use Rattle.paper.proofs.Visits.{in-lattice, lattice-in, step-lt, visited-lt}
+use Rattle.paper.proofs.Visits.{in-lattice, lattice-in, step-lt, visited-kept, visited-lt}
 use Rattle.pairing.specs.Pairing.{times, outer, Paired}
 use Rattle.pairing.specs.Visitable.{trianglesAt, unshared}
-use Rattle.pairing.proofs.Count.{list-in, in-list, any-at, map-in, map-unique, rising-unique, Unique}
+use Rattle.lists.proofs.Within.{list-in, in-list, member-any, map-in}
+use Rattle.lists.proofs.Counts.{map-unique, rising-unique, Unique}
 use Rattle.pairing.proofs.Table.{flat}
 use Rattle.pairing.proofs.Whole.{Spread, Settled, times-are, settled, lone}
 use Rattle.pairing.proofs.Outer.{unshared-is, outer-is}
@@ -53,20 +53,9 @@ module _ (L : Lattice) (sized : Sized (L .size)) (start : ℕ) (inside : start <
   seen : (k : ℕ) → In k (visited L start) → k < cubes z
   seen k i = visited-lt L start k (list-in i)
 
-  bounded : (i j : ℕ) → i < cubes z → T (isIn (steps L i) j) → j < cubes z
-  bounded i j g = step-lt L i j
-
-  -- the visited cubes rise
-  visited-kept : visited L start ≡ keep (isIn (visited L start)) (range 0 (cubes z))
-  unfolding visited
-  visited-kept =
-      let n = cubes z in
-      marks-are (steps L) n bounded start inside (isIn (reached (steps L) n start)) (complete (steps L) n bounded start inside arrived)
-      (λ k h t. sound (steps L) n start k t) (λ j k h t s. closed (steps L) n start inside j k t s (step-lt L j k s))
-
   visited-unique : Unique (visited L start)
   visited-unique =
-      subst Unique (sym visited-kept)
+      subst Unique (sym (visited-kept L start))
       (rising-unique 0 (keep (isIn (visited L start)) (range 0 (cubes z))) (keep-rising (isIn (visited L start)) 0 (cubes z)))
 
   abbrev places : List Place
@@ -80,7 +69,7 @@ module _ (L : Lattice) (sized : Sized (L .size)) (start : ℕ) (inside : start <
       let q = cubeNo z (f .beyond) in
       let b = f .there && inLattice z (f .beyond) && mixedAt L p (f .corners) in
       subst T (sym (any-each (eqb q) (stepOver L p) (faces p)))
-      (any-at (λ g. isIn (stepOver L p g) q) i
+      (member-any (λ g. isIn (stepOver L p g) q) i
       (subst (λ (c : Bool). T (isIn (consIf c q []) q))
       (sym (T→eq b (both3 (f .there) (inLattice z (f .beyond)) (mixedAt L p (f .corners)) h k t))) (or-left (eqb q q) false (eqb-refl q))))
 

@@ -6,7 +6,7 @@ use mathlib.Core.Logic.{inl, inr}
 use Prim.Native.Nat.{ℕ, _+_, _/_, _%_}
 use native.Mathlib.Omega.{arith}
 use lib.Dec.{T}
-use Rattle.lists.specs.Lists.{each}
+use Rattle.lists.specs.Lists.{each, count}
 use Rattle.lists.proofs.Closure.{bool-same}
 use Rattle.paper.specs.declared.Sizes.{Sizes}
 use Rattle.paper.specs.declared.Place.{Place}
@@ -14,9 +14,10 @@ use Rattle.paper.specs.Lattice.{place, corner}
 use Rattle.paper.specs.Within.{SampleIn, CubeIn}
 use Rattle.paper.specs.Sheet.{rowOf}
 use Rattle.paper.proofs.Numbers.{corner-inside}
-use Rattle.pairing.specs.Pairing.{count, Arrow, around, isArrow}
+use Rattle.pairing.specs.Pairing.{Arrow, around, isArrow}
 use Rattle.pairing.specs.Visitable.{trianglesAt}
-use Rattle.pairing.proofs.Count.{is-arrow, arrow-is, pick, count-map, count-same}
+use Rattle.lists.proofs.Counts.{pick, count-map, count-same}
+use Rattle.pairing.proofs.Arrows.{is-arrow, arrow-is}
 use Rattle.pairing.proofs.Table.{Side, sideOf, same, is-same, same-is, sides, arrowsIn, sides-are, Good, good-at, Moved, Shape, Neat, neat-at, flat, Axis, across, lowRow, highRow}
 use Rattle.pairing.proofs.Names.{namedArrow}
 use Rattle.pairing.proofs.Edges.{number, arrows-are, number-moved, corner-moved, Edge, One, one-of}

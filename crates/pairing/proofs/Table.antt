@@ -7,7 +7,7 @@ use mathlib.Core.Logic.{_⊎_, inl, inr}
 use Prim.Native.Nat.{ℕ, suc, _+_, _-_, _*_, _/_, _%_, _<_, min}
 use lib.Dec.{T, eqb, ltb, eqb→eq, ltb→lt}
 use lib.ListN.{getD, List·getD-map}
-use Rattle.lists.specs.Lists.{range, keep, any, all, each}
+use Rattle.lists.specs.Lists.{range, keep, any, all, each, count}
 use Rattle.lists.proofs.Member.{T→eq, or-cases, and-both, and-left, and-right, and3, both3}
 use Rattle.lists.proofs.Every.{all-test, all-getD, each-map}
 use Rattle.lists.proofs.Computed.{both, both-at}
@@ -15,8 +15,9 @@ use Rattle.paper.specs.declared.Place.{Place}
 use Rattle.paper.specs.Lattice.{place, corner, mixed}
 use Rattle.paper.specs.Tables.{Ends, Tet, Tri, ends, tri, tets, rows, tetEdges, kinds, low, joins, kindOf}
 use Rattle.paper.specs.Sheet.{rowOf}
-use Rattle.pairing.specs.Pairing.{count, Arrow, around}
-use Rattle.pairing.proofs.Count.{holds, eqb-of, all-in, all-each, all-map, each-each, map-each, count-step, count-keep, map-in}
+use Rattle.pairing.specs.Pairing.{Arrow, around}
+use Rattle.lists.proofs.Within.{holds, eqb-of, all-in, all-each, all-map, each-each, map-each, map-in}
+use Rattle.lists.proofs.Counts.{count-step, count-keep}
 
 -- an edge of a cube as one number, its code: 8 times the corner at its anchor, plus its kind
 unfoldable pub code : Ends → ℕ

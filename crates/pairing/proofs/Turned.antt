@@ -2,19 +2,19 @@
 -- directed edges. Assumes nothing.
 use mathlib.Core.Path.{_≡_, refl, sym, ap, _∙_, subst}
 use mathlib.Core.Bool.{Bool, true, false, _||_}
-use mathlib.Core.List.{List, [], _∷_, map, List·Memᴰ as In, List·Memᴰ·head as here, List·Memᴰ·tail as there}
+use mathlib.Core.List.{List, [], map, List·Memᴰ as In}
 use mathlib.Core.Logic.{inl, inr}
-use Prim.Native.Nat.{ℕ, zero, suc, _+_, _≤_, _<_}
+use Prim.Native.Nat.{ℕ, zero, suc, _≤_, _<_}
 use native.Mathlib.Omega.{arith}
-use native.Mathlib.Decide.{ℕ-discrete, decLt}
 use lib.Dec.{T, eqb, eqb→eq}
 use lib.ListN.{length}
-use Rattle.lists.specs.Lists.{consIf}
+use Rattle.lists.specs.Lists.{consIf, count}
 use Rattle.lists.proofs.Member.{or-cases, or-left, or-right, and3, both3}
 use Rattle.paper.specs.Tables.{Tri, tri}
 use Rattle.paper.specs.Check.{sameTriangle, turned}
-use Rattle.pairing.specs.Pairing.{count, Arrow, arrow, around, isArrow, times}
-use Rattle.pairing.proofs.Count.{eqb-of, count-each, sum, sum-none, sum-one, sum-some, Unique}
+use Rattle.pairing.specs.Pairing.{Arrow, arrow, around, isArrow, times}
+use Rattle.lists.proofs.Within.{eqb-of}
+use Rattle.lists.proofs.Counts.{sum, sum-none, sum-some, part-le, one-member, sum-map, count-each, Unique, sum-one, by-order}
 
 abbrev rot : Tri → Tri
 rot t = tri (t .b) (t .c) (t .a)
@@ -94,21 +94,6 @@ hit-turned m n (same e) = ap (hit m n) e
 hit-turned m n {t} (once e) = hit-rot m n t ∙ ap (hit m n) e
 hit-turned m n {t} (twice e) = hit-rot m n t ∙ hit-rot m n (rot t) ∙ ap (hit m n) e
 
--- two members that contribute to a sum of 1 are one
-member-le : {A : Type 0} (f : A → ℕ) {l : List A} {a : A} → In a l → f a ≤ sum f l
-member-le f {l = x ∷ l} (here e) = omega (arith, ap f e)
-member-le f {l = x ∷ l} (there i) = omega (arith, member-le f i)
-
-one-member : {A : Type 0} (f : A → ℕ) {l : List A} {a b : A} → sum f l ≤ 1 → In a l → In b l → (f a ≡ 0 → ⊥) → (f b ≡ 0 → ⊥) → a ≡ b
-one-member f h (here e) (here q) p r = e ∙ sym q
-one-member f h (here e) (there j) p r = absurd (omega (arith, ap f e, member-le f j, p, r))
-one-member f h (there i) (here q) p r = absurd (omega (arith, ap f q, member-le f i, p, r))
-one-member f {l = x ∷ l} h (there i) (there j) p r = one-member f {l = l} (omega arith) i j p r
-
-sum-map : {A B : Type 0} (f : B → ℕ) (g : A → B) (l : List A) → sum f (map g l) ≡ sum (λ a. f (g a)) l
-sum-map f g [] = refl
-sum-map f g (x ∷ l) = ap (λ (n : ℕ). f (g x) + n) (sum-map f g l)
-
 module _ (tri-at : ℕ → Tri) (l : List ℕ) (distinct : Unique l) (us : List Tri) (few : (m n : ℕ) → times us m n ≤ 1)
     (sound : (i : ℕ) → In i l → (u : Tri) × In u us × Turned (tri-at i) u)
     (full : (u : Tri) → In u us → (i : ℕ) × In i l × Turned u (tri-at i))
@@ -125,7 +110,7 @@ module _ (tri-at : ℕ → Tri) (l : List ℕ) (distinct : Unique l) (us : List 
           sum-none (λ i. hit m n (tri-at i)) l
           (λ i j p.
           let u = sound i j in
-          p (hit-turned m n (u .2) ∙ (let q : hit m n (u .0) ≤ sum (hit m n) us = member-le (hit m n) (u .1) in omega arith)))
+          p (hit-turned m n (u .2) ∙ (let q : hit m n (u .0) ≤ sum (hit m n) us = part-le (hit m n) (u .1) in omega arith)))
           ∙ sym e
       go (suc k) e =
           let few′ : sum (hit m n) us ≤ 1 = omega (arith, few m n, sums us m n) in
@@ -134,7 +119,7 @@ module _ (tri-at : ℕ → Tri) (l : List ℕ) (distinct : Unique l) (us : List 
           let some : hit m n (w .0) ≡ 0 → ⊥ = w .2 in
           sum-one (λ i. hit m n (tri-at i)) distinct (v .0) (v .1) (λ i j p. only (w .0) (w .1) some (v .0) (v .1) (v .2) few′ i j p)
           ∙ sym (hit-turned m n (v .2))
-          ∙ (let q : hit m n (w .0) ≤ sum (hit m n) us = member-le (hit m n) (w .1) in omega arith)
+          ∙ (let q : hit m n (w .0) ≤ sum (hit m n) us = part-le (hit m n) (w .1) in omega arith)
         where
           only : (u : Tri) → In u us → (hit m n u ≡ 0 → ⊥) → (c : ℕ) → In c l → Turned u (tri-at c) → sum (hit m n) us ≤ 1 → (i : ℕ) → In i l
               → (hit m n (tri-at i) ≡ 0 → ⊥) → i ≡ c
@@ -142,7 +127,5 @@ module _ (tri-at : ℕ → Tri) (l : List ℕ) (distinct : Unique l) (us : List 
               let s = sound i j in
               let q : s .0 ≡ u = one-member (hit m n) h (s .1) a (λ y. p (hit-turned m n (s .2) ∙ y)) b in
               let r : Turned (tri-at i) (tri-at c) = along (subst (Turned (tri-at i)) q (s .2)) t in
-              elim (ℕ-discrete i c) [
-                | yes y ↦ y
-                | no y ↦ elim (decLt i c) [ yes g ↦ absurd (apart c i d j g (back r)) | no g ↦ absurd (apart i c j d (omega arith) r) ]
-              ]
+              by-order (λ i c. In i l × In c l × Turned (tri-at i) (tri-at c)) (λ i c g q. apart i c (q .0) (q .1) g (q .2)) (λ i c q. (q .1, q .0, back (q .2))) i c
+              (j, d, r)

@@ -7,15 +7,16 @@ use mathlib.Core.Logic.{_⊎_, inl, inr}
 use Prim.Native.Nat.{ℕ, _+_, _-_, _/_, _%_}
 use native.Mathlib.Omega.{arith}
 use lib.Dec.{T, eqb, eqb→eq, lt→ltb}
-use Rattle.lists.specs.Lists.{each}
+use Rattle.lists.specs.Lists.{each, count}
 use Rattle.lists.proofs.Member.{T→eq, eq→T, or-cases, and-both, and-left, and-right, and3, both3}
 use Rattle.paper.specs.declared.Sizes.{Sizes}
 use Rattle.paper.specs.declared.Place.{Place}
 use Rattle.paper.specs.Lattice.{place, corner, mixed, Face, faces}
 use Rattle.paper.specs.Within.{CubeIn}
-use Rattle.pairing.specs.Pairing.{count, around, isArrow, times}
+use Rattle.pairing.specs.Pairing.{around, isArrow, times}
 use Rattle.pairing.specs.Visitable.{trianglesAt, samePlace, shared}
-use Rattle.pairing.proofs.Count.{T→false, eqb-of, each-each, count-each, sum, sum-one, sum-none, sum-some, Unique}
+use Rattle.lists.proofs.Within.{T→false, eqb-of, each-each}
+use Rattle.lists.proofs.Counts.{count-each, sum, sum-one, sum-none, sum-some, Unique}
 use Rattle.pairing.proofs.Table.{same, sides, Good, flat, flat-cases, Axis, lowFace, highFace}
 use Rattle.pairing.proofs.Sides.{side-good, at, hits, Known, turn-known, Found, found, Spot, spot, hits-at, hits-before, hits-after, corner-zero, corner-inj}
 

@@ -6,7 +6,7 @@ use Prim.Native.Nat.{ℕ, _+_, _-_, _*_, _/_, _%_, _<_}
 use lib.IntN.{natAbs}
 use lib.Dec.{T, eqb}
 use lib.ListN.{length, getD}
-use Rattle.lists.specs.Lists.{range, keep, all, each, isIn}
+use Rattle.lists.specs.Lists.{range, count, all, each, isIn}
 use Rattle.paper.specs.declared.Sizes.{Sizes}
 use Rattle.paper.specs.declared.Place.{Place}
 use Rattle.paper.specs.Lattice.{Lattice, sampleAt, corner, Visited}
@@ -14,10 +14,6 @@ use Rattle.paper.specs.Tables.{Tri, tri, ends, kinds}
 use Rattle.paper.specs.Sheet.{cubeEdges}
 use Rattle.paper.specs.File.{fileV, fileT, fileVertices, fileTriangles}
 use Rattle.paper.specs.Check.{edgeOf}
-
--- how many of a list pass
-abbrev pub count : {A : Type 0} → (A → Bool) → List A → ℕ
-count p l = length (keep p l)
 
 -- a directed edge of a triangle
 pub record Arrow : Type 0 where

@@ -143,27 +143,32 @@ standing-at L n u v false true j hu hv eu ev x = record {
 }
 standing-at L n u v false false j hu hv eu ev x = absurd x
 
--- an edge of a cube whose ends are on different sides has such a vertex
-pub edge-stands : (L : Lattice) (p : Place) → CubeIn (L .size) p → (e : Ends) → T (kindHas e) → T (split L p e)
-    → Standing L (edgeNo (L .size) p e)
-unfolding split
-edge-stands L p hp e hk hs =
-    let z = L .size in
-    let g = both-in e (in-cube e hk) in
-    let u = corner p (e .a) in
-    let v = corner p (e .b) in
-    let hu = corner-inside z p hp (e .a) (g .0) in
-    let hv = corner-inside z p hp (e .b) (g .1) in
-    elim (edge-ends z p hp e hk) [
-      | inl j ↦ standing-at L (edgeNo z p e) u v (airAt L u) (airAt L v) j hu hv refl refl hs
-      | inr j ↦ standing-at L (edgeNo z p e) v u (airAt L v) (airAt L u) j hv hu refl refl (subst T (xor-turn (airAt L u) (airAt L v)) hs)
-    ]
-
 module _ (L : Lattice) (s : Sized (L .size)) (k : ℕ) (h : k < cubes (L .size)) where
-  -- each of a cube's side-changing edges has one, and is one of 7 · samples
+  -- what holds of the number of any two samples on different sides holds of each of a cube's side-changing edges
+  pub cube-edges-join : (P : ℕ → Type 0)
+      → ((n : ℕ) (u v : Place) → Joined (L .size) n u v → SampleIn (L .size) u → SampleIn (L .size) v → T (xor (airAt L u) (airAt L v)) → P n)
+      → All P (cubeEdges L k)
+  unfolding split
+  cube-edges-join P f = on-cube-edges kindHas kinds-found P L k each-edge
+    where
+      each-edge : (e : Ends) → T (kindHas e) → T (split L (cubeAt (L .size) k) e) → P (edgeNo (L .size) (cubeAt (L .size) k) e)
+      each-edge e hk hs =
+          let z = L .size in
+          let p = cubeAt z k in
+          let hp = cube-inside z s k h in
+          let g = both-in e (in-cube e hk) in
+          let u = corner p (e .a) in
+          let v = corner p (e .b) in
+          let hu = corner-inside z p hp (e .a) (g .0) in
+          let hv = corner-inside z p hp (e .b) (g .1) in
+          elim (edge-ends z p hp e hk) [
+            | inl j ↦ f (edgeNo z p e) u v j hu hv hs
+            | inr j ↦ f (edgeNo z p e) v u j hv hu (subst T (xor-turn (airAt L u) (airAt L v)) hs)
+          ]
+
+  -- each has such a vertex, and is one of 7 · samples
   pub cube-edges-stand : All (Standing L) (cubeEdges L k)
-  cube-edges-stand =
-      on-cube-edges kindHas kinds-found (Standing L) L k (edge-stands L (cubeAt (L .size) k) (cube-inside (L .size) s k h))
+  cube-edges-stand = cube-edges-join (Standing L) (λ n u v j hu hv x. standing-at L n u v (airAt L u) (airAt L v) j hu hv refl refl x)
 
   pub cube-edges-lt : All (λ e. e < 7 * samples (L .size)) (cubeEdges L k)
   cube-edges-lt =

@@ -2,10 +2,11 @@
 use mathlib.Core.Path.{_≡_, refl, sym, subst}
 use mathlib.Core.Bool.{Bool, true, false, cond, _&&_}
 use mathlib.Core.List.{List, [], _∷_, _++_}
-use Prim.Native.Nat.{_<_}
+use Prim.Native.Nat.{ℕ, _<_}
 use native.Mathlib.Omega.{arith}
 use borrow.Author.Tests.{le-leb}
 use lib.Dec.{T}
+use Rattle.lists.proofs.Every.{All}
 use Rattle.paper.specs.declared.Sizes.{Sizes}
 use Rattle.paper.specs.Lattice.{axis, axes}
 use Rattle.paper.specs.Tests.{Test, verdict, judge}
@@ -50,6 +51,10 @@ judge-all (t ∷ ts) h e =
     let p = judge-first t ts (h .0) e in
     (p .0, judge-all ts (h .1) (p .1))
 
+pub both-passed : (l m : List Test) → Passed l → Passed m → Passed (l ++ m)
+both-passed [] m h k = k
+both-passed (t ∷ l) m h k = (h .0, both-passed l m (h .1) k)
+
 pub passed-judge : (l : List Test) → Passed l → judge l ≡ verdict 0 0
 passed-judge [] p = refl
 passed-judge (t ∷ ts) p = rw (p .0) (passed-judge ts (p .1))
@@ -74,6 +79,24 @@ judge-stop (t ∷ ts) m h = go (t .passed) h (λ k. judge-stop ts m k)
 -- the number 0 has the place 0
 pub judge-none : (l : List Test) → Numbered l → judge l .number ≡ 0 → judge l ≡ verdict 0 0
 judge-none l h e = passed-judge l (judge-all l h e)
+
+-- what holds of each test's number, and of 0, holds of the answer's
+pub judge-among : (P : ℕ → Type 0) (l : List Test) → All (λ t. P (t .otherwise .number)) l → (judge l .number ≡ 0 → P 0) → P (judge l .number)
+judge-among P [] h z = z refl
+judge-among P (t ∷ l) h z = go (t .passed) z (λ q. judge-among P l (h .1) q)
+  where
+    go : (b : Bool) → (cond b (judge l) (t .otherwise) .number ≡ 0 → P 0) → ((judge l .number ≡ 0 → P 0) → P (judge l .number)) → P (cond b (judge l) (t .otherwise) .number)
+    go true q r = r q
+    go false q r = h .0
+
+-- where no test has a place, neither has the answer
+pub judge-placeless : (l : List Test) → All (λ t. t .otherwise .place ≡ 0) l → judge l .place ≡ 0
+judge-placeless [] h = refl
+judge-placeless (t ∷ l) h = go (t .passed) (judge-placeless l (h .1))
+  where
+    go : (b : Bool) → judge l .place ≡ 0 → cond b (judge l) (t .otherwise) .place ≡ 0
+    go true e = e
+    go false e = h .0
 
 -- test 1
 pub sized : (z : Sizes) → axes z ≡ true → Sized z

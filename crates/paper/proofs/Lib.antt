@@ -12,3 +12,5 @@ pub mod Visits
 pub mod Finding
 pub mod Steps
 pub mod Judged
+pub mod Tested
+pub mod Passing

@@ -14,6 +14,7 @@ use Rattle.lists.proofs.Every.{All, all-test, all-weak, all-map, all-each, all-
 use Rattle.lists.proofs.Rising.{Rising, keep-rising, rank-lt}
 use Rattle.lists.proofs.Runs.{rank-place}
 use Rattle.lists.proofs.Closure.{bool-same}
+use Rattle.lists.proofs.Counts.{Unique, rising-unique}
 use Rattle.paper.specs.declared.Place.{Place}
 use Rattle.paper.specs.Lattice.{Lattice, samples, sampleAt, airAt, corner, cubes, cubeAt, visited}
 use Rattle.paper.specs.Tables.{Tet, Tri, ends, tri, tets, rows, tetEdges, kinds}
@@ -30,6 +31,11 @@ use Rattle.paper.proofs.Crossing.{Positioned, positioned}
 pub edges-rising : (L : Lattice) (vs : List ℕ) → Rising 0 (vertexEdges L vs)
 unfolding vertexEdges
 edges-rising L vs = keep-rising (isIn (each (cubeEdges L) vs)) 0 (7 * samples (L .size))
+
+-- each once
+pub edges-unique : (L : Lattice) (start : ℕ) → Unique (sheetOf L start .edges)
+unfolding sheetOf
+edges-unique L start = rising-unique 0 (vertexEdges L (visited L start)) (edges-rising L (visited L start))
 
 -- each is the number of an edge of the lattice
 pub edges-lt : (L : Lattice) (vs : List ℕ) → All (λ e. e < 7 * samples (L .size)) (vertexEdges L vs)
@@ -131,9 +137,9 @@ pub record Below (n : ℕ) (t : Tri) : Type 0 where
   pub b : t .b < n
   pub c : t .c < n
 
--- the edges that a triangle by vertices names
-abbrev pub named : List ℕ → Tri → Tri
-named es t = tri (getD es (t .a) 0) (getD es (t .b) 0) (getD es (t .c) 0)
+-- a triangle whose corners are named otherwise
+unfoldable pub named : (ℕ → ℕ) → Tri → Tri
+named f t = tri (f (t .a)) (f (t .b)) (f (t .c))
 
 module _ (L : Lattice) (s : Sized (L .size)) (start : ℕ) where
   pub visits-lt : All (λ k. k < cubes (L .size)) (visited L start)
@@ -165,13 +171,13 @@ module _ (L : Lattice) (s : Sized (L .size)) (start : ℕ) where
       ts triangles-among)
 
   -- and the vertices that it names are those of its edges
-  pub indices-name : map (named (sheetOf L start .edges)) (sheetOf L start .triangles) ≡ sheetOf L start .byEdge
-  unfolding sheetOf numbered
+  pub indices-name : map (named (λ i. getD (sheetOf L start .edges) i 0)) (sheetOf L start .triangles) ≡ sheetOf L start .byEdge
+  unfolding sheetOf numbered named
   indices-name =
       let es = vertexEdges L (visited L start) in
       go es (edges-rising L (visited L start)) (each (cubeTriangles L) (visited L start)) triangles-among
     where
-      go : (es : List ℕ) → Rising 0 es → (ts : List Tri) → All (Among es) ts → map (named es) (map (numbered es) ts) ≡ ts
+      go : (es : List ℕ) → Rising 0 es → (ts : List Tri) → All (Among es) ts → map (named (λ i. getD es i 0)) (map (numbered es) ts) ≡ ts
       go es r [] h = refl
       go es r (t ∷ ts) h =
           let a = rank-place es 0 0 (t .a) r (h .0 .a) in

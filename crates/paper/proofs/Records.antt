@@ -4,11 +4,11 @@ use mathlib.Core.Bool.{Bool, true, false, cond}
 use mathlib.Core.List.{List, [], _∷_}
 use Prim.Native.Nat.{ℕ, _*_, _/_, _%_}
 use native.Mathlib.Omega.{arith}
-use lib.IntN.{ℤ, pos, negsuc}
+use lib.IntN.{ℤ, pos, negsuc, natAbs}
 use lib.Dec.{T, eqb→eq, eqb-refl}
 use lib.ListN.{getD, drop}
 use lib.Seq.{getD-take, getD-drop}
-use Rattle.lists.proofs.Member.{and-left, and-right}
+use Rattle.lists.proofs.Member.{and-both, and-left, and-right}
 use Rattle.paper.specs.declared.Place.{Place}
 use Rattle.paper.specs.Lattice.{Lattice, sampleAt, airAt, corner}
 use Rattle.paper.specs.Tables.{ends, kinds}
@@ -37,8 +37,15 @@ same-numbers (x ∷ xs) (y ∷ ys) t =
     let r = same-numbers xs ys (and-right (sameNumber x y) (sameNumbers xs ys) t) in
     λ i. e i ∷ r i
 
+numbers-own : (l : List ℤ) → T (sameNumbers l l)
+numbers-own [] = tt
+numbers-own (x ∷ l) = and-both (sameNumber x x) (sameNumbers l l) (same-refl x) (numbers-own l)
+
+pub numbers-same : (l m : List ℤ) → l ≡ m → T (sameNumbers l m)
+numbers-same l m e = subst (λ (k : List ℤ). T (sameNumbers l k)) e (numbers-own l)
+
 -- a vertex record begins with its edge
-pub first-number : (L : Lattice) (e : ℕ) → getD (vertexRecord L e) 0 (pos 0) ≡ pos e
+first-number : (L : Lattice) (e : ℕ) → getD (vertexRecord L e) 0 (pos 0) ≡ pos e
 unfolding vertexRecord recordAt
 first-number L e =
     let anchor = sampleAt (L .size) (e / 7) in
@@ -49,9 +56,22 @@ first-number L e =
     go true u v = refl
     go false u v = refl
 
-pub record-edge : (L : Lattice) (vs : List ℤ) (i e : ℕ) → T (sameNumbers (recordOf vs i) (vertexRecord L e)) → edgeOf vs i ≡ pos e
+-- the edge of a file's record is its first number
+record-first : (vs : List ℤ) (i : ℕ) → edgeOf vs i ≡ getD (recordOf vs i) 0 (pos 0)
 unfolding recordOf edgeOf
-record-edge L vs i e t =
-    ap (λ (n : ℕ). getD vs n (pos 0)) (omega arith)
-    ∙ (sym (getD-take 4 (drop (4 * i) vs) 0 (pos 0) (omega arith) ∙ getD-drop (4 * i) vs 0 (pos 0))
-    ∙ (ap (λ (l : List ℤ). getD l 0 (pos 0)) (same-numbers (recordOf vs i) (vertexRecord L e) t) ∙ first-number L e))
+record-first vs i =
+    ap (λ (n : ℕ). getD vs n (pos 0)) (omega arith) ∙ sym (getD-take 4 (drop (4 * i) vs) 0 (pos 0) (omega arith) ∙ getD-drop (4 * i) vs 0 (pos 0))
+
+pub edges-same : (vs : List ℤ) (i j : ℕ) → recordOf vs i ≡ recordOf vs j → edgeOf vs i ≡ edgeOf vs j
+edges-same vs i j q = record-first vs i ∙ (ap (λ (l : List ℤ). getD l 0 (pos 0)) q ∙ sym (record-first vs j))
+
+pub record-edge : (L : Lattice) (vs : List ℤ) (i e : ℕ) → recordOf vs i ≡ vertexRecord L e → edgeOf vs i ≡ pos e
+record-edge L vs i e q = record-first vs i ∙ (ap (λ (l : List ℤ). getD l 0 (pos 0)) q ∙ first-number L e)
+
+-- a record of some vertex is that of the vertex on its edge
+pub record-named : (L : Lattice) (vs : List ℤ) (i e k : ℕ) → recordOf vs i ≡ vertexRecord L e → edgeOf vs i ≡ pos k → recordOf vs i ≡ vertexRecord L k
+record-named L vs i e k q f = q ∙ ap (λ (x : ℤ). vertexRecord L (natAbs x)) (sym (record-edge L vs i e q) ∙ f)
+
+-- two edges with one record are one
+pub one-edge : (L : Lattice) (e k : ℕ) → vertexRecord L e ≡ vertexRecord L k → e ≡ k
+one-edge L e k q = ap natAbs (sym (first-number L e) ∙ (ap (λ (l : List ℤ). getD l 0 (pos 0)) q ∙ first-number L k))

@@ -1,12 +1,12 @@
 -- The visited cubes: a cube is in the list exactly when steps from the start lead to it. Assumes nothing.
-use mathlib.Core.Path.{sym, subst}
+use mathlib.Core.Path.{_≡_, sym, subst}
 use mathlib.Core.Bool.{_&&_}
 use Prim.Native.Nat.{ℕ, _+_, _≤_, _<_}
 use native.Mathlib.Omega.{arith}
 use lib.Dec.{T, ltb, leb, eqb, ltb→lt, lt→ltb, leb→le}
-use Rattle.lists.specs.Lists.{isIn}
+use Rattle.lists.specs.Lists.{range, keep, isIn}
 use Rattle.lists.proofs.Member.{and-left, and-right, and3, both3, any-each, any-some, in-consIf}
-use Rattle.lists.proofs.Closure.{sound, complete, reached-lt}
+use Rattle.lists.proofs.Closure.{sound, complete, reached-kept, reached-lt}
 use Rattle.paper.specs.declared.Sizes.{Sizes}
 use Rattle.paper.specs.declared.Place.{Place}
 use Rattle.paper.specs.Lattice.{Lattice, axis, axes, cubes, cubeNo, cubeAt, inLattice, mixedAt, faces, stepOver, steps, Visited, visited}
@@ -74,6 +74,11 @@ visited-exactly L start h k = record {
   listed = complete (steps L) (cubes (L .size)) (λ i j g. step-lt L i j) start h;
   reached = sound (steps L) (cubes (L .size)) start k;
 }
+
+-- they are listed by rising number
+pub visited-kept : (L : Lattice) (start : ℕ) → visited L start ≡ keep (isIn (visited L start)) (range 0 (cubes (L .size)))
+unfolding visited
+visited-kept L start = reached-kept (steps L) (cubes (L .size)) start
 
 pub visited-lt : (L : Lattice) (start k : ℕ) → T (isIn (visited L start) k) → k < cubes (L .size)
 unfolding visited

@@ -69,20 +69,23 @@ sampleTests L s words waiting slots =
     ∷ test 5 (starts L s)
     ∷ []
 
--- 6 and 7: "the sheet has more vertices than room", "the sheet has more triangles than room"
-unfoldable pub roomTests : Sheet → ℕ → ℕ → List Test
-roomTests S vertices triangles =
-    test 6 (leb (length (S .edges)) vertices) ∷ test 7 (leb (length (S .triangles)) triangles) ∷ []
+-- 6 and 7: "the sheet has more vertices than room", "the sheet has more triangles than room": nv and nt are their numbers
+unfoldable pub roomTests : ℕ → ℕ → ℕ → ℕ → List Test
+roomTests nv nt vertices triangles = test 6 (leb nv vertices) ∷ test 7 (leb nt triangles) ∷ []
 
 -- "Building: 1 to 7."
 unfoldable pub buildNumber : Lattice → Start → Lent → ℕ
 buildNumber L s l =
+    let S = sheetOf L (startOf L s) in
     judge
     (sampleTests L s (length (l .words)) (length (l .waiting)) (length (l .slots))
-    ++ roomTests (sheetOf L (startOf L s)) (vertexRoom (l .vertices)) (triangleRoom (l .triangles)))
+    ++ roomTests (length (S .edges)) (length (S .triangles)) (vertexRoom (l .vertices)) (triangleRoom (l .triangles)))
     .number
 
 -- "counts of vertices, triangles and visited cubes: true counts at 0, 6 and 7, zeros otherwise"
+abbrev pub counts : ℕ → Bool
+counts n = isIn (0 ∷ 6 ∷ 7 ∷ []) n
+
 abbrev pub counted : ℕ → Sheet → Built
 counted n S = record { number = n; vertices = length (S .edges); triangles = length (S .triangles); cubes = S .visits }
 
@@ -92,12 +95,15 @@ uncounted n = record { number = n; vertices = 0; triangles = 0; cubes = 0 }
 unfoldable pub built : Lattice → Start → Lent → Built
 built L s l =
     let n = buildNumber L s l in
-    cond (isIn (0 ∷ 6 ∷ 7 ∷ []) n) (counted n (sheetOf L (startOf L s))) (uncounted n)
+    cond (counts n) (counted n (sheetOf L (startOf L s))) (uncounted n)
 
 -- "After a success, or refusals 6, 7 (building), 17, 18, 19, the needed front of each work slice is all 0 and the rest is
 -- untouched.", "those not named under Lent room leave work room untouched"
+abbrev pub clears : ℕ → Bool
+clears n = isIn (0 ∷ 6 ∷ 7 ∷ 17 ∷ 18 ∷ 19 ∷ []) n
+
 unfoldable pub workAfter : ℕ → ℕ → List ℕ → List ℕ
-workAfter number n old = cond (isIn (0 ∷ 6 ∷ 7 ∷ 17 ∷ 18 ∷ 19 ∷ []) number) (cleared n old) old
+workAfter number n old = cond (clears number) (cleared n old) old
 
 -- "No refusal writes to output", "Output beyond what is written never changes."
 unfoldable pub outputAfter : {A : Type 0} → ℕ → List A → List A → List A

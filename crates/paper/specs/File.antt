@@ -14,7 +14,7 @@ use Rattle.paper.specs.declared.Wrote.{Wrote}
 use Rattle.paper.specs.declared.Got.{Got}
 use Rattle.paper.specs.Lattice.{axes}
 use Rattle.paper.specs.Tests.{Test, test, testAt, judge}
-use Rattle.paper.specs.Build.{vertexRoom, triangleRoom, outputAfter}
+use Rattle.paper.specs.Build.{vertexRoom, triangleRoom, roomTests, outputAfter}
 
 -- a signed 32-bit number as bits, and bits as one
 unfoldable pub bits32 : ℤ → ℕ
@@ -142,7 +142,7 @@ fileTests bs =
 -- "Reading: 11, 12, 1, 14, 15, 6, 7.": vs and ts are the lent slices
 unfoldable pub readVerdict : List ℕ → List ℤ → List ℕ → Verdict
 readVerdict bs vs ts =
-    judge (fileTests bs ++ test 6 (leb (fileV bs) (vertexRoom vs)) ∷ test 7 (leb (fileT bs) (triangleRoom ts)) ∷ [])
+    judge (fileTests bs ++ roomTests (fileV bs) (fileT bs) (vertexRoom vs) (triangleRoom ts))
 
 -- "Reading returns V, T and the sizes on success, zeros otherwise."
 unfoldable pub got : List ℕ → List ℤ → List ℕ → Got

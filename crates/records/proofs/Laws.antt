@@ -1,26 +1,25 @@
 -- One record after the other: its edge, and the slots once it is found. Assumes nothing.
 use mathlib.Core.Path.{_≡_, refl, sym, ap, subst, _∙_}
-use mathlib.Core.Bool.{Bool, true, false, cond, not, _&&_, _||_, and-false}
-use mathlib.Core.List.{List, [], _∷_, _++_, map}
+use mathlib.Core.Bool.{Bool, true, false, cond, not, _&&_, and-false}
+use mathlib.Core.List.{List, [], _∷_, map}
 use Prim.Native.Nat.{ℕ, _+_, _≤_, _<_}
 use native.Mathlib.Numerals.{add-one}
 use native.Mathlib.Omega.{arith}
-use native.Mathlib.Decide.{ℕ-discrete}
 use lib.IntN.{ℤ}
 use lib.Dec.{T, eqb, ltb}
-use lib.ListN.{length, getD, set, length-set}
-use lib.Seq.{getD-set-same, getD-set-other}
+use lib.ListN.{length, getD, set}
 use borrow.Author.Tests.{eq-eqb, ne-eqb, lt-ltb, le-ltb, ltb-true}
 use Rattle.lists.specs.Lists.{range, isIn}
 use Rattle.lists.proofs.Member.{T→eq, eq→T, and-left, and-right}
-use Rattle.lists.proofs.Runs.{along-snoc, first-at, first-none}
+use Rattle.lists.proofs.Runs.{along-snoc}
+use Rattle.lists.proofs.Stores.{stored-append, stored-length, stored-at}
 use Rattle.paper.specs.Lattice.{Lattice}
 use Rattle.paper.specs.Sheet.{vertexRecord}
 use Rattle.paper.specs.Build.{neededSlots}
 use Rattle.paper.specs.Check.{sameNumbers, recordOf}
 use Rattle.survey.specs.Marks.{used}
 use Rattle.measure.specs.Crossed.{AllCross}
-use Rattle.records.specs.Records.{edgeAt, goodRecord, goodEdge, emptied, edgesTo, slotsAfter, badIn, firstBadIn}
+use Rattle.records.specs.Records.{edgeAt, goodRecord, goodEdge, emptied, edgesTo, slotsAfter}
 
 -- ── one record ──
 
@@ -82,34 +81,14 @@ module _ (L : Lattice) (vs : List ℤ) (slots : List ℕ) (i : ℕ) where
 
 -- ── slots that become 0 ──
 
-emptied-snoc : (es l : List ℕ) (e : ℕ) → emptied (es ++ e ∷ []) l ≡ set (emptied es l) e 0
-emptied-snoc [] l e = refl
-emptied-snoc (x ∷ es) l e = emptied-snoc es (set l x 0) e
-
-emptied-length : (es l : List ℕ) → length (emptied es l) ≡ length l
-emptied-length [] l = refl
-emptied-length (e ∷ es) l = emptied-length es (set l e 0) ∙ length-set l e 0
-
-set-used : (l : List ℕ) (e k : ℕ) → k < length l → used (set l e 0) k ≡ (not (eqb k e) && used l k)
-unfolding used
-set-used l e k h = go (ℕ-discrete k e)
-  where
-    go : Dec (k ≡ e) → not (eqb (getD (set l e 0) k 0) 0) ≡ (not (eqb k e) && not (eqb (getD l k 0) 0))
-    go (yes q) =
-        rw (eq-eqb k e q)
-        (ap (λ (j : ℕ). not (eqb (getD (set l e 0) j 0) 0)) q ∙ ap (λ (v : ℕ). not (eqb v 0)) (getD-set-same l e 0 0 (subst (λ (j : ℕ). j < length l) q h)))
-    go (no q) = rw (ne-eqb k e q) (ap (λ (v : ℕ). not (eqb v 0)) (getD-set-other l e k 0 0 q))
-
 -- a slot is used where it was and is not of the list
 pub emptied-used : (es l : List ℕ) (k : ℕ) → k < length l → used (emptied es l) k ≡ (not (isIn es k) && used l k)
-emptied-used [] l k h = refl
-emptied-used (e ∷ es) l k h =
-    emptied-used es (set l e 0) k (omega (arith, length-set l e 0))
-    ∙ (ap (λ (b : Bool). not (isIn es k) && b) (set-used l e k h) ∙ join (eqb k e) (isIn es k) (used l k))
+unfolding used
+emptied-used es l k h = ap (λ (v : ℕ). not (eqb v 0)) (stored-at 0 es l k h) ∙ go (isIn es k)
   where
-    join : (a b c : Bool) → (not b && (not a && c)) ≡ (not (a || b) && c)
-    join true b c = and-false (not b)
-    join false b c = refl
+    go : (b : Bool) → not (eqb (cond b 0 (getD l k 0)) 0) ≡ (not b && not (eqb (getD l k 0) 0))
+    go true = refl
+    go false = refl
 
 -- ── record after record ──
 
@@ -122,11 +101,11 @@ module _ (L : Lattice) (vs : List ℤ) (slots : List ℕ) where
   unfolding slotsAfter edgesTo
   after-more i =
       sym (ap (λ (n : ℕ). emptied (map (edgeAt L vs) (range 0 n)) slots) (add-one i)
-      ∙ (ap (λ (es : List ℕ). emptied es slots) (along-snoc (edgeAt L vs) i) ∙ emptied-snoc (map (edgeAt L vs) (range 0 i)) slots (edgeAt L vs i)))
+      ∙ (ap (λ (es : List ℕ). emptied es slots) (along-snoc (edgeAt L vs) i) ∙ stored-append 0 (map (edgeAt L vs) (range 0 i)) (edgeAt L vs i ∷ []) slots))
 
   pub after-length : (i : ℕ) → length (slotsAfter L vs slots i) ≡ length slots
   unfolding slotsAfter
-  after-length i = emptied-length (edgesTo L vs i) slots
+  after-length i = stored-length 0 (edgesTo L vs i) slots
 
   pub after-crossing : (i : ℕ) → neededSlots (L .size) ≤ length slots → AllCross L slots → AllCross L (slotsAfter L vs slots i)
   unfolding slotsAfter
@@ -135,20 +114,3 @@ module _ (L : Lattice) (vs : List ℤ) (slots : List ℕ) where
         c .at e l
         (and-right (not (isIn (edgesTo L vs i) e)) (used slots e) (subst T (emptied-used (edgesTo L vs i) slots e (omega arith)) t));
   }
-
-  pub bad-here : (i : ℕ) → goodRecord L vs (slotsAfter L vs slots i) i ≡ false → badIn L vs slots i ≡ true
-  unfolding badIn
-  bad-here i q = ap not q
-
-  pub good-here : (i : ℕ) → goodRecord L vs (slotsAfter L vs slots i) i ≡ true → badIn L vs slots i ≡ false
-  unfolding badIn
-  good-here i q = ap not q
-
-  pub first-found : (nv i : ℕ) → i < nv → ((k : ℕ) → k < i → badIn L vs slots k ≡ false) → badIn L vs slots i ≡ true
-      → i ≡ firstBadIn L vs slots nv
-  unfolding firstBadIn
-  first-found nv i h good bad = sym (first-at (badIn L vs slots) nv 0 nv i (omega arith) (omega arith) (λ k g l. good k l) bad)
-
-  pub first-missing : (nv : ℕ) → ((k : ℕ) → k < nv → badIn L vs slots k ≡ false) → nv ≡ firstBadIn L vs slots nv
-  unfolding firstBadIn
-  first-missing nv good = sym (first-none (badIn L vs slots) nv 0 nv (λ k g l. good k (omega arith)))

@@ -7,22 +7,23 @@ use Prim.Native.Nat.{ℕ, zero, suc, _+_, _≤_, _<_}
 use native.Mathlib.Omega.{arith}
 use lib.IntN.{ℤ, pos, negsuc}
 use lib.Dec.{T, eqb, ltb, eqb→eq, eqb-refl, T-not, not-T}
-use lib.ListN.{length, drop, set}
-use lib.Seq.{drop-set-lt}
+use lib.ListN.{length, drop}
 use borrow.Author.Tests.{lt-ltb, ltb-true, not-false, eqb-false}
 use lib.Arith.{lt-of-le-ne}
 use Rattle.lists.specs.Lists.{range, any, isIn, first}
 use Rattle.lists.proofs.Member.{T→eq, eq→T, or-cases, or-left, or-right, and-both, and-left, and-right, and3, both3, any-in, in-any, in-range, range-in}
-use Rattle.lists.proofs.Every.{All, all-in}
+use Rattle.lists.proofs.Every.{All, all-in, all-map}
+use Rattle.lists.proofs.Within.{members, below as run-below}
+use Rattle.lists.proofs.Stores.{stored-rest}
 use Rattle.lists.proofs.Closure.{bool-same}
 use Rattle.lists.proofs.Firsts.{first-before}
 use Rattle.paper.specs.Lattice.{Lattice}
 use Rattle.paper.specs.Sheet.{Sheet, vertexRecord}
 use Rattle.paper.specs.Build.{neededSlots}
 use Rattle.paper.specs.Check.{sameNumber, sameNumbers, recordOf, edgeOf, badRecord}
-use Rattle.paper.proofs.Records.{same-number, number-same, record-edge}
+use Rattle.paper.proofs.Records.{same-number, number-same, same-numbers, record-edge}
 use Rattle.survey.specs.Marks.{used}
-use Rattle.records.specs.Records.{edgeIn, edgeAt, goodRecord, emptied, edgesTo, slotsAfter, badIn, firstBadIn}
+use Rattle.records.specs.Records.{edgeIn, edgeAt, goodRecord, edgesTo, slotsAfter, badIn, firstBadIn}
 use Rattle.records.proofs.Laws.{emptied-used}
 
 -- an edge among n
@@ -111,7 +112,7 @@ module _ (L : Lattice) (S : Sheet) (vs : List ℤ) (slots : List ℕ)
     good-full t =
         let w = any-in (λ e. sameNumbers (recordOf vs i) (vertexRecord L e)) (S .edges) (and-left found (not earlier) t) in
         let k = w .0 in
-        let q = record-edge L vs i k (w .1 .1) in
+        let q = record-edge L vs i k (same-numbers (recordOf vs i) (vertexRecord L k) (w .1 .1)) in
         let h : k < n = all-in (λ e. e < n) (S .edges) below k (w .1 .0) in
         let m : e ≡ k = at-edge k q h in
         let g : e < n = subst (λ (j : ℕ). j < n) (sym m) h in
@@ -149,14 +150,11 @@ module _ (L : Lattice) (vs : List ℤ) (slots : List ℕ) (nv : ℕ) where
       ltb-true e n (T→eq (ltb e n) (p .0))
 
 -- past the slots nothing changes
-rest-from : (n : ℕ) (f : ℕ → ℕ) (l : List ℕ) (i m : ℕ) → ((k : ℕ) → k < i + m → f k < n) → drop n (emptied (map f (range i m)) l) ≡ drop n l
-rest-from n f l i zero h = refl
-rest-from n f l i (suc m) h =
-    rest-from n f (set l (f i) 0) (suc i) m (λ k g. h k (omega arith)) ∙ drop-set-lt n l (f i) 0 (h i (omega arith))
-
 pub first-rest : (L : Lattice) (vs : List ℤ) (slots : List ℕ) (nv : ℕ)
     → drop (neededSlots (L .size)) (slotsAfter L vs slots (firstBadIn L vs slots nv)) ≡ drop (neededSlots (L .size)) slots
 unfolding slotsAfter edgesTo
 first-rest L vs slots nv =
-    rest-from (neededSlots (L .size)) (edgeAt L vs) slots 0 (firstBadIn L vs slots nv)
-    (λ k h. edge-below L vs slots nv k (omega arith))
+    let n = neededSlots (L .size) in
+    let i = firstBadIn L vs slots nv in
+    stored-rest 0 n (map (edgeAt L vs) (range 0 i)) slots
+    (all-map (λ e. e < n) (edgeAt L vs) (range 0 i) (members (range 0 i) (λ k m. edge-below L vs slots nv k (run-below i k m))))

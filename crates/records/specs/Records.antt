@@ -1,11 +1,10 @@
 -- A file's vertex records against the slots of the sheet's vertices. Assumes nothing.
 use mathlib.Core.Bool.{Bool, cond, not, _&&_}
-use mathlib.Core.List.{List, [], _∷_, map}
+use mathlib.Core.List.{List, map}
 use Prim.Native.Nat.{ℕ}
 use lib.IntN.{ℤ, pos, negsuc}
 use lib.Dec.{ltb}
-use lib.ListN.{set}
-use Rattle.lists.specs.Lists.{range, first}
+use Rattle.lists.specs.Lists.{range, first, stored}
 use Rattle.paper.specs.Lattice.{Lattice}
 use Rattle.paper.specs.Sheet.{vertexRecord}
 use Rattle.paper.specs.Build.{neededSlots}
@@ -33,8 +32,7 @@ goodEdge L vs slots i = cond (goodRecord L vs slots i) (edgeAt L vs i) (neededSl
 
 -- the slots of the edges of a list become 0
 abbrev pub emptied : List ℕ → List ℕ → List ℕ
-emptied [] l = l
-emptied (e ∷ es) l = emptied es (set l e 0)
+emptied es l = stored 0 es l
 
 -- the edges of the first i records, and the slots once these are found
 unfoldable pub edgesTo : Lattice → List ℤ → ℕ → List ℕ

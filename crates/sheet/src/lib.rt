@@ -8,17 +8,16 @@ ghost use Prim.Native.Nat.{_*_, _/_, _≤_};
 ghost use lib.ListN.{length};
 ghost use Rattle.paper.specs.Lattice.{lattice, cubes};
 ghost use Rattle.paper.specs.Tests.{judge};
-ghost use Rattle.paper.specs.Build.{lent, needed, neededSlots, outputAfter, Builds};
+ghost use Rattle.paper.specs.Build.{lent, needed, neededSlots, roomTests, outputAfter, Builds};
 ghost use Rattle.paper.specs.Within.{Full};
 ghost use Rattle.survey.specs.Marks.{trianglesUpto};
 ghost use Rattle.measure.specs.Crossed.{AllCross};
 ghost use Rattle.vertices.specs.Records.{usedFrom, recordsFrom};
 ghost use Rattle.triangles.specs.Named.{wordsFor};
-ghost use Rattle.sheet.specs.Rooms.{roomTestsBy};
 
 // Tests 6 and 7, for counts and the lengths of the lent output: the number of the first that fails, or 0.
 fn room_number(c: Counts, vertices: usize, triangles: usize) -> usize
-    ensures { λ r. ⌜ r ≡ judge (roomTestsBy c (vertices / 4) (triangles / 3)) .number ⌝ }
+    ensures { λ r. ⌜ r ≡ judge (roomTests (c .vertices) (c .triangles) (vertices / 4) (triangles / 3)) .number ⌝ }
 {
     if vertices / 4 < c.vertices {
         return 6;

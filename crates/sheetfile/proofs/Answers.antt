@@ -14,13 +14,14 @@ use Rattle.paper.specs.declared.Sizes.{Sizes}
 use Rattle.paper.specs.declared.Verdict.{Verdict}
 use Rattle.paper.specs.Lattice.{axes}
 use Rattle.paper.specs.Tests.{Test, test, judge, verdict}
-use Rattle.paper.specs.Build.{outputAfter}
+use Rattle.paper.specs.Build.{roomTests, outputAfter}
 use Rattle.paper.specs.File.{signed32, contentOf, trailerAt, fileLength, fileBytes, firstBad, indexTest, limits, writeVerdict, wrote, Writes, fileV, fileT, fileSizes, fileVertices, fileTriangles, fileTests, readVerdict, got, Reads}
 use Rattle.paper.proofs.Judged.{Numbered, Passed, numbered-both, passed-both, judge-all, judge-none, passed-judge, sized, sized-axes}
 use Rattle.lists.proofs.Stores.{sets-front}
 use Rattle.codec.proofs.Runs.{wordAt}
 use Rattle.layout.proofs.Trailer.{vertices-are, triangles-are, vertices-length, triangles-length}
-use Rattle.layout.proofs.Passing.{file-numbered, passed-laid}
+use Rattle.paper.proofs.Passing.{file-numbered, room-numbered, room-passed}
+use Rattle.layout.proofs.Passing.{passed-laid}
 use Rattle.sheetfile.specs.Taken.{Taken, Room}
 use Rattle.sheetfile.proofs.Stored.{counted}
 
@@ -84,15 +85,15 @@ module _ (z : Sizes) (nv nt : ℕ) (vs : List ℤ) (ts : List ℕ) where
 
 -- ── reading ──
 
-abbrev roomTests : List ℕ → ℕ → ℕ → List Test
-roomTests bs rv rt = test 6 (leb (fileV bs) rv) ∷ test 7 (leb (fileT bs) rt) ∷ []
-
 module _ (bs : List ℕ) (vs : List ℤ) (ts : List ℕ) where
-  pub read-tests : readVerdict bs vs ts ≡ judge (fileTests bs ++ roomTests bs (length vs / 4) (length ts / 3))
+  abbrev room : List Test
+  room = roomTests (fileV bs) (fileT bs) (length vs / 4) (length ts / 3)
+
+  pub read-tests : readVerdict bs vs ts ≡ judge (fileTests bs ++ room)
   unfolding readVerdict
   read-tests = refl
 
-  module _ (v : Verdict) (is : v ≡ judge (fileTests bs ++ roomTests bs (length vs / 4) (length ts / 3))) where
+  module _ (v : Verdict) (is : v ≡ judge (fileTests bs ++ room)) where
     answer : readVerdict bs vs ts ≡ v
     answer = read-tests ∙ sym is
 
@@ -105,30 +106,27 @@ module _ (bs : List ℕ) (vs : List ℤ) (ts : List ℕ) where
         record { answer = rw (r, n); vertices = rw (r, n); triangles = rw (r, n) }
 
     module _ (h : v .number ≡ 0) where
-      numbered : Numbered (fileTests bs ++ roomTests bs (length vs / 4) (length ts / 3))
-      numbered = numbered-both (fileTests bs) (roomTests bs (length vs / 4) (length ts / 3)) (file-numbered bs) (omega arith, (omega arith, tt))
+      numbered : Numbered (fileTests bs ++ room)
+      numbered = numbered-both (fileTests bs) room (file-numbered bs) (room-numbered (fileV bs) (fileT bs) (length vs / 4) (length ts / 3))
 
-      zero-judge : judge (fileTests bs ++ roomTests bs (length vs / 4) (length ts / 3)) .number ≡ 0
+      zero-judge : judge (fileTests bs ++ room) .number ≡ 0
       zero-judge = ap (λ (w : Verdict). w .number) (sym is) ∙ h
 
       pub readable-laid : Room bs (length vs) (length ts)
       readable-laid =
-          let p = passed-both (fileTests bs) (roomTests bs (length vs / 4) (length ts / 3)) (judge-all (fileTests bs ++ roomTests bs (length vs / 4) (length ts / 3)) numbered zero-judge) in
-          record {
-            laid = passed-laid bs (p .0);
-            room-v = omega (arith, leb-true (fileV bs) (length vs / 4) (p .1 .0));
-            room-t = omega (arith, leb-true (fileT bs) (length ts / 3) (p .1 .1 .0));
-          }
+          let p = passed-both (fileTests bs) room (judge-all (fileTests bs ++ room) numbered zero-judge) in
+          let r = room-passed (fileV bs) (fileT bs) (length vs / 4) (length ts / 3) (p .1) in
+          record { laid = passed-laid bs (p .0); room-v = omega (arith, r .0); room-t = omega (arith, r .1) }
 
       pub readable-passed : judge (fileTests bs) ≡ verdict 0 0
       readable-passed =
           passed-judge (fileTests bs)
-          (passed-both (fileTests bs) (roomTests bs (length vs / 4) (length ts / 3))
-          (judge-all (fileTests bs ++ roomTests bs (length vs / 4) (length ts / 3)) numbered zero-judge)
+          (passed-both (fileTests bs) room
+          (judge-all (fileTests bs ++ room) numbered zero-judge)
           .0)
 
       pub readable-none : readVerdict bs vs ts ≡ verdict 0 0
-      readable-none = read-tests ∙ judge-none (fileTests bs ++ roomTests bs (length vs / 4) (length ts / 3)) numbered zero-judge
+      readable-none = read-tests ∙ judge-none (fileTests bs ++ room) numbered zero-judge
 
       pub read-done : (nv nt : ℕ) (z : Sizes) (vs′ : List ℤ) (ts′ : List ℕ) → nv ≡ fileV bs → nt ≡ fileT bs → z ≡ fileSizes bs
           → vs′ ≡ sets vs 0 (map (wordAt signed32 4 bs 0) (range 0 (4 * nv)))

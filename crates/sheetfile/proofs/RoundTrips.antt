@@ -4,7 +4,7 @@ use mathlib.Core.Bool.{Bool, true, false, cond}
 use mathlib.Core.List.{List}
 use Prim.Native.Nat.{ℕ, _*_, _/_, _≤_}
 use native.Mathlib.Omega.{arith}
-use borrow.Author.Tests.{le-leb, eqb-true}
+use borrow.Author.Tests.{eqb-true}
 use lib.Dec.{eqb}
 use lib.IntN.{ℤ}
 use lib.ListN.{length, take, drop, length-append, List·getD-append}
@@ -20,7 +20,8 @@ use Rattle.paper.specs.File.{contentOf, trailerAt, fileLength, fileBytes, write
 use Rattle.paper.proofs.Judged.{judge-past}
 use Rattle.codec.specs.Words.{Bytes, Words}
 use Rattle.layout.proofs.Trailer.{vertices-length, triangles-length}
-use Rattle.layout.proofs.Passing.{file-numbered, first-same}
+use Rattle.paper.proofs.Passing.{file-numbered, room-enough}
+use Rattle.layout.proofs.Passing.{first-same}
 use Rattle.sheetfile.specs.Taken.{Taken, Room}
 use Rattle.sheetfile.specs.Trips.{Holds, Returned}
 use Rattle.sheetfile.proofs.Stored.{file-long}
@@ -43,7 +44,7 @@ holds-read {bs} {z} {nv} {nt} {xs} {ys} {vs} {vs′} {ts} {ts′} {g} h r hv ht 
     let n : readVerdict bs vs ts ≡ verdict 0 0 =
     read-tests bs vs ts
     ∙ (judge-past (fileTests bs) _ (file-numbered bs) (ap (λ (w : Verdict). w .number) (h .passes))
-    ∙ rw (le-leb (fileV bs) (length vs / 4) v, le-leb (fileT bs) (length ts / 3) t)) in
+    ∙ room-enough (fileV bs) (fileT bs) (length vs / 4) (length ts / 3) v t) in
     record {
       answer = r .answer ∙ rw (n, h .count-v, h .count-t, h .sizes);
       vertices = r .vertices ∙ rw (n, h .vertices);

@@ -5,13 +5,14 @@ use paper::Verdict;
 use paper::Wrote;
 ghost use mathlib.Core.Path.{_≡_};
 ghost use mathlib.Core.Bool.{_&&_};
-ghost use mathlib.Core.List.{[], _∷_, _++_};
+ghost use mathlib.Core.List.{_++_};
 ghost use Prim.Native.Nat.{_+_, _*_, _≤_};
 ghost use lib.Dec.{leb};
 ghost use lib.ListN.{length};
 ghost use lib.Seq.{sets};
 ghost use Rattle.lists.specs.Lists.{over};
-ghost use Rattle.paper.specs.Tests.{test, judge};
+ghost use Rattle.paper.specs.Tests.{judge};
+ghost use Rattle.paper.specs.Build.{roomTests};
 ghost use Rattle.paper.specs.Within.{Sized};
 ghost use Rattle.paper.specs.File.{contentOf, fileBytes, firstBad, limits, writeVerdict, Writes, fileV, fileT, fileTests, Reads};
 ghost use Rattle.sheetfile.specs.Taken.{countBytes, sizeBytes, Writable};
@@ -159,7 +160,7 @@ pub fn write(
 
 // "Reading: 11, 12, 1, 14, 15, 6, 7."; rv and rt are the rooms.
 fn readable(bytes: &[u8], rv: usize, rt: usize) -> Verdict
-    ensures { λ r. ⌜ r ≡ judge (fileTests (now (bytes .entry)) ++ test 6 (leb (fileV (now (bytes .entry))) rv) ∷ test 7 (leb (fileT (now (bytes .entry))) rt) ∷ []) ⌝ }
+    ensures { λ r. ⌜ r ≡ judge (fileTests (now (bytes .entry)) ++ roomTests (fileV (now (bytes .entry))) (fileT (now (bytes .entry))) rv rt) ⌝ }
 {
     let v = layout::tested(bytes);
     if v.number != 0 {

@@ -11,15 +11,20 @@ use Rattle.lists.proofs.Runs.{at-along}
 use Rattle.lists.proofs.Computed.{upto-at}
 use Rattle.paper.specs.declared.Sizes.{Sizes}
 use Rattle.paper.specs.declared.Place.{Place}
-use Rattle.paper.specs.Lattice.{place, samples, sampleNo, cubes, cubeNo, cubeAt, corner}
+use Rattle.paper.specs.Lattice.{Lattice, place, samples, sampleNo, cubes, cubeNo, cubeAt, corner}
 use Rattle.paper.specs.Tables.{tri, rows}
+use Rattle.paper.specs.Sheet.{cubeTriangles}
 use Rattle.paper.specs.Within.{Sized, CubeIn}
 use Rattle.paper.proofs.Numbers.{sample-lt, cube-place, cube-inside, cube-back, corner-inside}
 use Rattle.lattice.specs.Steps.{cornerStep}
 use Rattle.lattice.proofs.Laws.{corner-no}
 use Rattle.tetra.specs.Cut.{rowBy, tetStep, rowTriangles, trianglesBy, locals, localAt, localStep, localSteps}
 use Rattle.tetra.proofs.Tables.{local-lt}
-use Rattle.survey.specs.Marks.{baseOf, countBy, countWord, edgesWord, edgesIn, trianglesIn, Slotted}
+use Rattle.tetra.proofs.Laws.{cube-triangles-by}
+use Rattle.sides.specs.Pattern.{patternAt}
+use Rattle.sides.proofs.Laws.{pattern-lt}
+use Rattle.flood.specs.Flooded.{wordOf}
+use Rattle.survey.specs.Marks.{baseOf, countBy, countWord, edgesWord, edgesIn, trianglesWord, trianglesIn, Slotted}
 
 kind-seven : (j : ℕ) → j < 19 → localAt j 1 < 7
 unfolding localAt locals
@@ -67,6 +72,19 @@ slotted z s k h steps e long l = record {
 
 -- ── words ──
 
+-- the word that a visited cube has: its pattern, which gives its triangles
+pub record Worded (L : Lattice) (word k : ℕ) : Type 0 where
+  pub some : word ≡ 0 → ⊥
+  pub pattern : word % 256 ≡ patternAt L (cubeAt (L .size) k)
+  pub triangles : trianglesBy (L .size) (baseOf (L .size) k) (word % 256) ≡ cubeTriangles L k
+
+pub worded : (L : Lattice) (k word : ℕ) → word ≡ wordOf L k → Worded L word k
+unfolding wordOf baseOf
+worded L k word e =
+    let z = L .size in
+    let q : word % 256 ≡ patternAt L (cubeAt z k) = omega (arith, pattern-lt L (cubeAt z k)) in
+    record { some = λ o. omega arith; pattern = q; triangles = ap (trianglesBy z (baseOf z k)) q ∙ cube-triangles-by L k }
+
 same-lengths : {A B : Type 0} (f : ℕ → A → B) (g : ℕ → List A) (l : List ℕ) → length (each (λ t. map (f t) (g t)) l) ≡ length (each g l)
 same-lengths f g [] = refl
 same-lengths f g (t ∷ l) =
@@ -80,7 +98,7 @@ count-is z base m =
 
 module _ (z : Sizes) (words : List ℕ) (k : ℕ) where
   pub count-in : countWord (getD words k 0) ≡ length (trianglesIn z words k)
-  unfolding countWord trianglesIn
+  unfolding countWord trianglesIn trianglesWord
   count-in = go (eqb (getD words k 0) 0)
     where
       go : (b : Bool) → cond b 0 (countBy (getD words k 0 % 256)) ≡ length (cond b [] (trianglesBy z (baseOf z k) (getD words k 0 % 256)))

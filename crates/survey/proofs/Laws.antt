@@ -1,17 +1,19 @@
 -- What the passes over words and slots make, one step at a time. Assumes nothing.
-use mathlib.Core.Path.{_≡_, refl, sym, ap, subst, _∙_}
+use mathlib.Core.Path.{_≡_, refl, sym, ap, _∙_}
 use mathlib.Core.Bool.{Bool, true, false, cond, not}
-use mathlib.Core.List.{List, [], _∷_, _++_, map, map-append, append-assoc, append-nil}
-use Prim.Native.Nat.{ℕ, zero, suc, _+_, _≤_, _<_}
+use mathlib.Core.List.{List, [], _∷_, _++_, map, map-append, append-assoc}
+use Prim.Native.Nat.{ℕ, suc, _+_, _≤_, _<_}
 use native.Mathlib.Numerals.{add-one}
 use native.Mathlib.Omega.{arith}
-use native.Mathlib.Decide.{decLt}
 use lib.Dec.{eqb}
-use lib.ListN.{length, getD, set, drop, length-set, length-append}
+use lib.ListN.{length, getD, set, drop, length-append}
 use lib.Seq.{set-at, getD-at, drop-cons}
 use Rattle.lists.specs.Lists.{range, consIf, keep, each}
 use Rattle.lists.proofs.Every.{each-le}
-use Rattle.lists.proofs.Runs.{range-more, keep-snoc, each-append, length-along, at-along, along-snoc}
+use Rattle.lists.proofs.Rising.{keep-le}
+use Rattle.lists.proofs.Closure.{length-range}
+use Rattle.lists.proofs.Stores.{stored-append, stored-length}
+use Rattle.lists.proofs.Runs.{keep-snoc, each-more, length-along, at-along, along-snoc}
 use Rattle.paper.specs.declared.Sizes.{Sizes}
 use Rattle.paper.specs.Tables.{rows}
 use Rattle.paper.proofs.Tables.{row-short}
@@ -19,14 +21,6 @@ use Rattle.tetra.specs.Cut.{rowBy, rowCount, localSplit}
 use Rattle.survey.specs.Marks.{marks, used, usedOf, edgesFrom, countBy, patternCounts, edgesIn, trianglesIn, edgesUpto, trianglesUpto, numberIn}
 
 -- ── marks ──
-
-pub marks-append : (a b l : List ℕ) → marks (a ++ b) l ≡ marks b (marks a l)
-marks-append [] b l = refl
-marks-append (e ∷ a) b l = marks-append a b (set l e 1)
-
-pub marks-length : (a l : List ℕ) → length (marks a l) ≡ length l
-marks-length [] l = refl
-marks-length (e ∷ a) l = marks-length a (set l e 1) ∙ length-set l e 1
 
 -- one more that may pass
 map-keep-more : (f : ℕ → ℕ) (p : ℕ → Bool) (j : ℕ) → map f (keep p (range 0 (j + 1))) ≡ map f (keep p (range 0 j)) ++ consIf (p j) (f j) []
@@ -51,7 +45,7 @@ module _ (steps : List ℕ) (base m : ℕ) (l : List ℕ) where
   unfolding markedTo
   marked-more j =
       sym (ap (λ (es : List ℕ). marks es l) (map-keep-more (λ j. base + getD steps j 0) (localSplit m) j)
-      ∙ marks-append (map (λ j. base + getD steps j 0) (keep (localSplit m) (range 0 j))) (consIf (localSplit m j) (base + getD steps j 0) []) l)
+      ∙ stored-append 1 (map (λ j. base + getD steps j 0) (keep (localSplit m) (range 0 j))) (consIf (localSplit m j) (base + getD steps j 0) []) l)
 
   pub marked-all : markedTo steps base m 19 l ≡ marks (edgesFrom steps base m) l
   unfolding markedTo edgesFrom
@@ -59,32 +53,11 @@ module _ (steps : List ℕ) (base m : ℕ) (l : List ℕ) where
 
   pub marked-length : (j : ℕ) → length (markedTo steps base m j l) ≡ length l
   unfolding markedTo
-  marked-length j = marks-length (map (λ j. base + getD steps j 0) (keep (localSplit m) (range 0 j))) l
+  marked-length j = stored-length 1 (map (λ j. base + getD steps j 0) (keep (localSplit m) (range 0 j))) l
 
 -- the triangles of the first t tetrahedra
 unfoldable pub countTo : ℕ → ℕ → ℕ
 countTo m t = length (each (λ t. getD rows (rowBy m t) []) (range 0 t))
-
--- one more of a run
-pub each-more : {A : Type 0} (f : ℕ → List A) (k : ℕ) → each f (range 0 (k + 1)) ≡ each f (range 0 k) ++ f k
-each-more f k =
-    ap (λ (n : ℕ). each f (range 0 n)) (add-one k)
-    ∙ (ap (each f) (range-more k)
-    ∙ (each-append f (range 0 k) (k ∷ []) ∙ ap (λ (l : List _). each f (range 0 k) ++ l) (append-nil (f k))))
-
--- a longer run makes no less
-pub each-prefix : {A : Type 0} (f : ℕ → List A) (m n : ℕ) → m ≤ n → length (each f (range 0 m)) ≤ length (each f (range 0 n))
-each-prefix f m zero h = let e : m ≡ 0 = omega arith in subst (λ (m : ℕ). length (each f (range 0 m)) ≤ 0) (sym e) (omega arith)
-each-prefix f m (suc n) h = go (decLt m (suc n)) (λ l. each-prefix f m n l)
-  where
-    step : length (each f (range 0 (suc n))) ≡ length (each f (range 0 n)) + length (f n)
-    step =
-        ap (λ (k : ℕ). length (each f (range 0 k))) (sym (add-one n)) ∙ (ap length (each-more f n) ∙ length-append (each f (range 0 n)) (f n))
-
-    go : Dec (m < suc n) → (m ≤ n → length (each f (range 0 m)) ≤ length (each f (range 0 n)))
-        → length (each f (range 0 m)) ≤ length (each f (range 0 (suc n)))
-    go (yes l) ih = omega (arith, ih (omega arith), step)
-    go (no l) ih = let e : m ≡ suc n = omega arith in subst (λ (k : ℕ). length (each f (range 0 k)) ≤ length (each f (range 0 (suc n)))) (sym e) (omega arith)
 
 pub count-none : (m : ℕ) → 0 ≡ countTo m 0
 unfolding countTo
@@ -111,7 +84,7 @@ module _ (z : Sizes) (words : List ℕ) (k : ℕ) where
   pub marks-more : (l : List ℕ) → marks (edgesIn z words k) (marks (edgesUpto z words k) l) ≡ marks (edgesUpto z words (k + 1)) l
   unfolding edgesUpto
   marks-more l =
-      sym (ap (λ (es : List ℕ). marks es l) (each-more (edgesIn z words) k) ∙ marks-append (each (edgesIn z words) (range 0 k)) (edgesIn z words k) l)
+      sym (ap (λ (es : List ℕ). marks es l) (each-more (edgesIn z words) k) ∙ stored-append 1 (each (edgesIn z words) (range 0 k)) (edgesIn z words k) l)
 
   pub count-more : length (trianglesUpto z words k) + length (trianglesIn z words k) ≡ length (trianglesUpto z words (k + 1))
   unfolding trianglesUpto
@@ -163,12 +136,4 @@ numbered-none l = refl
 
 pub used-le : (l : List ℕ) (e : ℕ) → length (usedOf l e) ≤ e
 unfolding usedOf
-used-le l zero = omega arith
-used-le l (suc e) = go (used l e) (used-le l e)
-  where
-    go : (b : Bool) → length (keep (used l) (range 0 e)) ≤ e → length (keep (used l) (range 0 (suc e))) ≤ suc e
-    go b q = omega (arith, ap length (keep-snoc (used l) e), length-append (keep (used l) (range 0 e)) (consIf (used l e) e []), one (used l e))
-      where
-        one : (c : Bool) → length (consIf c e []) ≤ 1
-        one true = omega arith
-        one false = omega arith
+used-le l e = omega (arith, keep-le (used l) (range 0 e), length-range 0 e)

@@ -1,10 +1,10 @@
 -- Passes over cube words and edge slots. Assumes nothing.
 use mathlib.Core.Bool.{Bool, cond, not}
-use mathlib.Core.List.{List, [], _∷_, map}
+use mathlib.Core.List.{List, [], map}
 use Prim.Native.Nat.{ℕ, _+_, _*_, _%_, _<_}
 use lib.Dec.{eqb}
-use lib.ListN.{length, getD, set}
-use Rattle.lists.specs.Lists.{range, keep, each}
+use lib.ListN.{length, getD}
+use Rattle.lists.specs.Lists.{range, keep, each, stored}
 use Rattle.paper.specs.declared.Sizes.{Sizes}
 use Rattle.paper.specs.Lattice.{sampleNo, cubeAt}
 use Rattle.paper.specs.Tables.{Tri, rows}
@@ -12,8 +12,7 @@ use Rattle.tetra.specs.Cut.{rowBy, localSplit, localSteps, trianglesBy}
 
 -- the slots of the edges of a list become 1
 abbrev pub marks : List ℕ → List ℕ → List ℕ
-marks [] l = l
-marks (e ∷ es) l = marks es (set l e 1)
+marks es l = stored 1 es l
 
 -- an entry that is not 0, and the places of those among the first n
 unfoldable pub used : List ℕ → ℕ → Bool
@@ -33,6 +32,10 @@ edgesFrom steps base m = map (λ j. base + getD steps j 0) (keep (localSplit m) 
 unfoldable pub edgesWord : List ℕ → ℕ → ℕ → List ℕ
 edgesWord steps base word = cond (eqb word 0) [] (edgesFrom steps base (word % 256))
 
+-- the triangles of a cube with a word
+unfoldable pub trianglesWord : Sizes → ℕ → ℕ → List Tri
+trianglesWord z base word = cond (eqb word 0) [] (trianglesBy z base (word % 256))
+
 -- how many triangles a cube with pattern m has, one with each pattern, and one with a word
 unfoldable pub countBy : ℕ → ℕ
 countBy m = length (each (λ t. getD rows (rowBy m t) []) (range 0 6))
@@ -48,7 +51,7 @@ unfoldable pub edgesIn : Sizes → List ℕ → ℕ → List ℕ
 edgesIn z words k = edgesWord (localSteps z) (baseOf z k) (getD words k 0)
 
 unfoldable pub trianglesIn : Sizes → List ℕ → ℕ → List Tri
-trianglesIn z words k = cond (eqb (getD words k 0) 0) [] (trianglesBy z (baseOf z k) (getD words k 0 % 256))
+trianglesIn z words k = trianglesWord z (baseOf z k) (getD words k 0)
 
 -- those of the first n cubes
 unfoldable pub edgesUpto : Sizes → List ℕ → ℕ → List ℕ

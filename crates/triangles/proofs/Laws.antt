@@ -11,28 +11,24 @@ use lib.Seq.{sets, length-sets, take-suc, take-all, length-take-le}
 use borrow.Author.Tests.{eq-eqb, ne-eqb}
 use Rattle.lists.specs.Lists.{range, each, over}
 use Rattle.lists.proofs.Every.{each-length}
-use Rattle.lists.proofs.Runs.{each-append}
+use Rattle.lists.proofs.Runs.{each-more, each-prefix}
 use Rattle.paper.specs.declared.Sizes.{Sizes}
 use Rattle.paper.specs.Lattice.{samples, cubes, cubeAt, corner}
 use Rattle.paper.specs.Tables.{Tri, tri, low}
 use Rattle.paper.specs.Sheet.{corners3}
 use Rattle.paper.specs.Within.{Sized}
 use Rattle.paper.proofs.Numbers.{sample-lt, cube-inside, corner-inside}
+use Rattle.paper.proofs.Listing.{Below}
 use Rattle.lattice.proofs.Laws.{corner-no}
 use Rattle.tetra.specs.Cut.{tetEnds, edgeStep, tetStep, rowBy, rowCount, rowEdge, rowTriangles, trianglesBy}
 use Rattle.paper.proofs.Tables.{kind-lt}
 use Rattle.tetra.proofs.Tables.{low-lt, count-le, row-length, edge-six}
 use Rattle.tetra.proofs.Laws.{row-triangle}
-use Rattle.survey.specs.Marks.{baseOf, trianglesIn, trianglesUpto}
-use Rattle.survey.proofs.Laws.{each-more, each-prefix}
-use Rattle.lists.proofs.Stores.{sets-join, sets-front}
-use Rattle.triangles.specs.Named.{byNumber, wordsFor, trianglesWord, TetSlotted}
+use Rattle.survey.specs.Marks.{baseOf, trianglesWord, trianglesIn, trianglesUpto}
+use Rattle.lists.proofs.Stores.{each-behind, sets-front}
+use Rattle.triangles.specs.Named.{byNumber, wordsFor, TetSlotted}
 
 -- ── writing one behind the other ──
-
-words-join : (slots : List ℕ) (a b : List Tri) → wordsFor slots (a ++ b) ≡ wordsFor slots a ++ wordsFor slots b
-unfolding wordsFor
-words-join slots a b = each-append (λ t. corners3 (byNumber slots t)) a b
 
 pub words-length : (slots : List ℕ) (ts : List Tri) → length (wordsFor slots ts) ≡ 3 * length ts
 unfolding wordsFor
@@ -48,11 +44,8 @@ module _ (slots : List ℕ) (at : ℕ) (l : List ℕ) where
   written-none = refl
 
   pub written-more : (a b : List Tri) → sets (writtenTo slots a at l) (3 * (at + length a)) (wordsFor slots b) ≡ writtenTo slots (a ++ b) at l
-  unfolding writtenTo
-  written-more a b =
-      let e : 3 * (at + length a) ≡ 3 * at + length (wordsFor slots a) = omega (arith, words-length slots a) in
-      ap (λ (j : ℕ). sets (sets l (3 * at) (wordsFor slots a)) j (wordsFor slots b)) e
-      ∙ (sets-join l (wordsFor slots a) (wordsFor slots b) (3 * at) ∙ ap (sets l (3 * at)) (sym (words-join slots a b)))
+  unfolding writtenTo wordsFor
+  written-more a b = each-behind (λ t. corners3 (byNumber slots t)) 3 (λ t. refl) at l a b
 
   pub written-length : (ts : List Tri) → length (writtenTo slots ts at l) ≡ length l
   unfolding writtenTo
@@ -92,11 +85,6 @@ module _ (z : Sizes) (base t r : ℕ) where
   first-all j h = take-all j (rowTriangles z base t r) (omega (arith, row-length z base t r))
 
 -- the edges of a row's triangle have slots
-pub record Below (long : ℕ) (g : Tri) : Type 0 where
-  pub a : g .a < long
-  pub b : g .b < long
-  pub c : g .c < long
-
 pub row-below : (z : Sizes) (base t r j long : ℕ) → TetSlotted z base long → t < 6 → r < 16 → j < rowCount r
     → Below long (getD (rowTriangles z base t r) j (tri 0 0 0))
 row-below z base t r j long w ht hr hj =
@@ -149,8 +137,8 @@ unfolding trianglesWord
 word-used z base word e = ap (λ (b : Bool). cond b [] (trianglesBy z base (word % 256))) (ne-eqb word 0 e)
 
 pub word-in : (z : Sizes) (words : List ℕ) (k base : ℕ) → base ≡ baseOf z k → trianglesWord z base (getD words k 0) ≡ trianglesIn z words k
-unfolding trianglesWord trianglesIn
-word-in z words k base e = ap (λ (b : ℕ). cond (eqb (getD words k 0) 0) [] (trianglesBy z b (getD words k 0 % 256))) e
+unfolding trianglesIn
+word-in z words k base e = ap (λ (b : ℕ). trianglesWord z b (getD words k 0)) e
 
 module _ (z : Sizes) (words : List ℕ) where
   pub cubes-none : trianglesUpto z words 0 ≡ []

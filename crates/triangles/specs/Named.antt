@@ -1,14 +1,12 @@
 -- Triangles by the numbers in the slots of their edges. Assumes nothing.
-use mathlib.Core.Bool.{cond}
-use mathlib.Core.List.{List, []}
-use Prim.Native.Nat.{ℕ, _+_, _-_, _%_, _<_}
-use lib.Dec.{eqb}
+use mathlib.Core.List.{List}
+use Prim.Native.Nat.{ℕ, _+_, _-_, _<_}
 use lib.ListN.{getD}
 use Rattle.lists.specs.Lists.{each}
 use Rattle.paper.specs.declared.Sizes.{Sizes}
 use Rattle.paper.specs.Tables.{Tri, tri}
 use Rattle.paper.specs.Sheet.{corners3}
-use Rattle.tetra.specs.Cut.{tetStep, trianglesBy}
+use Rattle.tetra.specs.Cut.{tetStep}
 
 -- the vertex number of an edge: its slot holds one more
 unfoldable pub numberOf : List ℕ → ℕ → ℕ
@@ -20,10 +18,6 @@ byNumber slots t = tri (numberOf slots (t .a)) (numberOf slots (t .b)) (numberOf
 -- the numbers of triangles, three to each
 unfoldable pub wordsFor : List ℕ → List Tri → List ℕ
 wordsFor slots ts = each (λ t. corners3 (byNumber slots t)) ts
-
--- the triangles of a cube with a word
-unfoldable pub trianglesWord : Sizes → ℕ → ℕ → List Tri
-trianglesWord z base word = cond (eqb word 0) [] (trianglesBy z base (word % 256))
 
 -- the edges of a cube's tetrahedra have slots
 pub record TetSlotted (z : Sizes) (base long : ℕ) : Type 0 where

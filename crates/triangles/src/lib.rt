@@ -12,8 +12,8 @@ ghost use Rattle.paper.specs.Sheet.{corners3};
 ghost use Rattle.paper.specs.Build.{neededSlots};
 ghost use Rattle.paper.specs.Within.{Sized};
 ghost use Rattle.tetra.specs.Cut.{triOf, tetCorners, rowSteps, rowTriangles, trianglesBy};
-ghost use Rattle.survey.specs.Marks.{trianglesUpto};
-ghost use Rattle.triangles.specs.Named.{byNumber, wordsFor, trianglesWord, TetSlotted};
+ghost use Rattle.survey.specs.Marks.{trianglesWord, trianglesUpto};
+ghost use Rattle.triangles.specs.Named.{byNumber, wordsFor, TetSlotted};
 
 // A slot holds one more than a vertex number.
 fn number(slot: u32) -> u32

@@ -13,7 +13,6 @@ use lib.ListN.{length, getD, set, length-set}
 use lib.Seq.{getD-set-same, getD-set-other}
 use borrow.Author.Tests.{eq-eqb, ne-eqb, lt-ltb, le-ltb, ltb-true, eqb-true, eqb-false}
 use Rattle.lists.specs.Lists.{range, first}
-use Rattle.lists.proofs.Runs.{first-at, first-none}
 use Rattle.lists.proofs.Firsts.{first-holds}
 use Rattle.lists.proofs.Computed.{upto-at}
 use Rattle.paper.specs.declared.Sizes.{Sizes}
@@ -30,7 +29,7 @@ use Rattle.survey.specs.Marks.{baseOf}
 use Rattle.survey.proofs.Cubes.{first-cube}
 use Rattle.records.specs.Records.{edgeIn}
 use Rattle.triples.specs.declared.Spot.{Spot}
-use Rattle.triples.specs.Triples.{holder, isAt, placeFrom, placeBy, placeIn, placeOf, Sure, Based, Found, fresh, noted, freshAt, notedAt, Small, seenAfter, badIn, firstBadIn}
+use Rattle.triples.specs.Triples.{holder, isAt, placeFrom, placeBy, placeIn, placeOf, Sure, Based, Found, fresh, noted, freshAt, notedAt, Small, seenAfter}
 
 -- ── numbers ──
 
@@ -235,20 +234,3 @@ module _ (z : Sizes) (words : List ℕ) (vs : List ℤ) (ts seen : List ℕ) whe
   unfolding seenAfter noted
   after-length zero = refl
   after-length (suc i) = length-set (seenAfter z words vs ts seen i) _ _ ∙ after-length i
-
-  pub bad-here : (i : ℕ) → fresh z words (seenAfter z words vs ts seen i) (triangleOf vs ts i) ≡ false → badIn z words vs ts seen i ≡ true
-  unfolding badIn
-  bad-here i q = ap not q
-
-  pub good-here : (i : ℕ) → fresh z words (seenAfter z words vs ts seen i) (triangleOf vs ts i) ≡ true → badIn z words vs ts seen i ≡ false
-  unfolding badIn
-  good-here i q = ap not q
-
-  pub first-found : (nt i : ℕ) → i < nt → ((k : ℕ) → k < i → badIn z words vs ts seen k ≡ false) → badIn z words vs ts seen i ≡ true
-      → i ≡ firstBadIn z words vs ts seen nt
-  unfolding firstBadIn
-  first-found nt i h good bad = sym (first-at (badIn z words vs ts seen) nt 0 nt i (omega arith) (omega arith) (λ k g l. good k l) bad)
-
-  pub first-missing : (nt : ℕ) → ((k : ℕ) → k < nt → badIn z words vs ts seen k ≡ false) → nt ≡ firstBadIn z words vs ts seen nt
-  unfolding firstBadIn
-  first-missing nt good = sym (first-none (badIn z words vs ts seen) nt 0 nt (λ k g l. good k (omega arith)))

@@ -15,10 +15,11 @@ use Rattle.lists.specs.Lists.{range, any, isIn, first}
 use Rattle.lists.proofs.Member.{T→eq, eq→T, and-both, and-left, and-right, any-each, any-in, in-any, in-range, range-in}
 use Rattle.lists.proofs.Every.{any-at, at-any}
 use Rattle.lists.proofs.Closure.{bool-same}
+use Rattle.lists.proofs.Within.{any-agree, below}
 use Rattle.lists.proofs.Runs.{any-snoc, any-first}
 use Rattle.lists.proofs.Firsts.{first-agree, first-before, first-holds}
 use Rattle.paper.specs.declared.Sizes.{Sizes}
-use Rattle.paper.specs.Lattice.{Lattice, cubes, cubeNo, cubeAt, visited}
+use Rattle.paper.specs.Lattice.{Lattice, cubes, cubeNo, visited}
 use Rattle.paper.specs.Tables.{Tri, tri}
 use Rattle.paper.specs.Sheet.{Sheet, sheetOf, cubeTriangles}
 use Rattle.paper.specs.Within.{Sized}
@@ -27,13 +28,12 @@ use Rattle.paper.proofs.Visits.{visited-lt}
 use Rattle.paper.proofs.Edges.{anchorOf, cubeOf}
 use Rattle.paper.proofs.Finding.{turned-cube, in-sheet}
 use Rattle.pairing.proofs.Turned.{is-turned, turned-is, back, along}
-use Rattle.sides.specs.Pattern.{bitOf, patternAt}
-use Rattle.sides.proofs.Laws.{pattern-lt}
+use Rattle.sides.specs.Pattern.{bitOf}
 use Rattle.tetra.specs.Cut.{rowBy, rowCount, rowTriangles, trianglesBy}
 use Rattle.tetra.proofs.Tables.{count-le, row-length}
-use Rattle.tetra.proofs.Laws.{cube-triangles-by}
 use Rattle.flood.specs.Flooded.{wordOf}
 use Rattle.survey.specs.Marks.{baseOf}
+use Rattle.survey.proofs.Cubes.{Worded, worded}
 use Rattle.triples.specs.Triples.{holder, isAt, placeBy, placeIn, placeOf, fresh, noted, seenAfter, badIn, firstBadIn}
 use Rattle.triples.proofs.Laws.{Fresh, is-fresh, bit-set, after-length, place-cube, place-out, place-idle, place-word}
 
@@ -166,12 +166,6 @@ module _ (z : Sizes) (words : List ℕ) (t u : Tri) (ht : placeOf z words t < 12
 
 -- ── the bits tell which places have been seen ──
 
-any-below : (p q : ℕ → Bool) (n : ℕ) → ((j : ℕ) → j < n → p j ≡ q j) → any p (range 0 n) ≡ any q (range 0 n)
-any-below p q n h =
-    bool-same (any p (range 0 n)) (any q (range 0 n))
-    (λ t. let w = any-in p (range 0 n) t in in-any q (range 0 n) (w .0) (w .1 .0) (subst T (h (w .0) (omega (arith, range-in 0 n (w .0) (w .1 .0)))) (w .1 .1)))
-    (λ t. let w = any-in q (range 0 n) t in in-any p (range 0 n) (w .0) (w .1 .0) (subst T (sym (h (w .0) (omega (arith, range-in 0 n (w .0) (w .1 .0))))) (w .1 .1)))
-
 module _ (z : Sizes) (words : List ℕ) (vs : List ℤ) (ts seen : List ℕ) (long : cubes z ≤ length seen)
     (blank : (k : ℕ) → k < cubes z → getD seen k 0 ≡ 0) where
   abbrev tri-at : ℕ → Tri
@@ -235,8 +229,8 @@ module _ (z : Sizes) (words : List ℕ) (vs : List ℤ) (ts seen : List ℕ) (lo
         → any (hits (holder z (tri-at i)) (placeOf z words (tri-at i))) (range 0 i) ≡ any (λ j. turned (tri-at i) (tri-at j)) (range 0 i)
     unfolding hits
     repeats i g h =
-        any-below (hits (holder z (tri-at i)) (placeOf z words (tri-at i))) (λ j. turned (tri-at i) (tri-at j)) i
-        (λ j l. same-spot z words (tri-at i) (tri-at j) h (good j (g j l) .place))
+        any-agree (hits (holder z (tri-at i)) (placeOf z words (tri-at i))) (λ j. turned (tri-at i) (tri-at j)) (range 0 i)
+        (λ j m. same-spot z words (tri-at i) (tri-at j) h (good j (g j (below i j m)) .place))
 
     pub bad-is : (i : ℕ) → ((j : ℕ) → j < i → badIn z words vs ts seen j ≡ false) → badIn z words vs ts seen i ≡ badNaming S vs ts i
     unfolding badIn badNaming fresh
@@ -269,21 +263,15 @@ module _ (L : Lattice) (s : Sized (L .size)) (start : ℕ) (words : List ℕ)
   abbrev size : Sizes
   size = L .size
 
-  -- the triangles by a visited cube's word are the cube's
-  pub cube-is : (k : ℕ) → T (isIn (visited L start) k) → (k < cubes size) × (getD words k 0 ≡ 0 → ⊥) × (trianglesBy size (baseOf size k) (getD words k 0 % 256) ≡ cubeTriangles L k)
-  unfolding wordOf baseOf
-  cube-is k v =
-      let h = visited-lt L start k v in
-      let p = patternAt L (cubeAt size k) in
-      let e : getD words k 0 ≡ 256 + p = words-are k h ∙ ap (λ (b : Bool). cond b (256 + p) 0) (T→eq (isIn (visited L start) k) v) in
-      let q : getD words k 0 % 256 ≡ p = omega (arith, pattern-lt L (cubeAt size k)) in
-      (h, (λ o. omega arith), ap (trianglesBy size (baseOf size k)) q ∙ cube-triangles-by L k)
+  pub cube-worded : (k : ℕ) → T (isIn (visited L start) k) → Worded L (getD words k 0) k
+  cube-worded k v =
+      worded L k (getD words k 0) (words-are k (visited-lt L start k v) ∙ ap (λ (b : Bool). cond b (wordOf L k) 0) (T→eq (isIn (visited L start) k) v))
 
   cube-places : (k : ℕ) (t : Tri) → T (isIn (visited L start) k) → ltb (placeIn size words k t) 12 ≡ any (turned t) (cubeTriangles L k)
   cube-places k t v =
-      let w = cube-is k v in
-      ap (λ (c : ℕ). ltb c 12) (sym (place-word size words k t (w .0) (w .1)))
-      ∙ (placed size (baseOf size k) (getD words k 0 % 256) t ∙ ap (any (turned t)) (w .2))
+      let w = cube-worded k v in
+      ap (λ (c : ℕ). ltb c 12) (sym (place-word size words k t (visited-lt L start k v) (w .some)))
+      ∙ (placed size (baseOf size k) (getD words k 0 % 256) t ∙ ap (any (turned t)) (w .triangles))
 
   no-places : (k : ℕ) (t : Tri) → isIn (visited L start) k ≡ false → ltb (placeIn size words k t) 12 ≡ false
   no-places k t v = ap (λ (c : ℕ). ltb c 12) (sym (go (ltb k (cubes size)) refl))

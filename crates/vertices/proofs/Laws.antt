@@ -13,7 +13,7 @@ use lib.Seq.{sets, length-sets}
 use borrow.Author.Tests.{eq-eqb, ne-eqb}
 use Rattle.lists.specs.Lists.{range, consIf, keep, each, over}
 use Rattle.lists.proofs.Every.{each-length}
-use Rattle.lists.proofs.Runs.{keep-append, each-append}
+use Rattle.lists.proofs.Runs.{range-join, keep-append}
 use Rattle.paper.specs.declared.Sizes.{Sizes}
 use Rattle.paper.specs.declared.Place.{Place}
 use Rattle.paper.specs.Lattice.{Lattice, place, samples, sampleNo, sampleAt}
@@ -23,18 +23,11 @@ use Rattle.paper.proofs.Listing.{record-length}
 use Rattle.paper.proofs.Numbers.{sample-place, sample-inside, sample-back}
 use Rattle.crossing.specs.Vertex.{Crosses}
 use Rattle.survey.specs.Marks.{used}
-use Rattle.lists.proofs.Stores.{sets-join, sets-front}
+use Rattle.lists.proofs.Stores.{each-behind, sets-front}
 use Rattle.measure.specs.Crossed.{AllCross}
 use Rattle.vertices.specs.Records.{usedFrom, recordsFrom, AnchorCrosses}
 
 -- ── runs ──
-
-range-join : (a m n : ℕ) → range a (m + n) ≡ range a m ++ range (a + m) n
-range-join a zero n = (λ i. range (sym (add-zero a) i) (zero-add n i))
-range-join a (suc m) n =
-    let e : suc m + n ≡ suc (m + n) = omega arith in
-    let f : suc a + m ≡ a + suc m = omega arith in
-    ap (range a) e ∙ ap (λ (l : List ℕ). a ∷ l) (range-join (suc a) m n ∙ ap (λ (b : ℕ). range (suc a) m ++ range b n) f)
 
 used-join : (slots : List ℕ) (a m n : ℕ) → usedFrom slots a (m + n) ≡ usedFrom slots a m ++ usedFrom slots (a + m) n
 unfolding usedFrom
@@ -42,10 +35,6 @@ used-join slots a m n = ap (keep (used slots)) (range-join a m n) ∙ keep-appen
 
 pub used-count : (slots : List ℕ) (a m n : ℕ) → length (usedFrom slots a m) + length (usedFrom slots (a + m) n) ≡ length (usedFrom slots a (m + n))
 used-count slots a m n = sym (ap length (used-join slots a m n) ∙ length-append (usedFrom slots a m) (usedFrom slots (a + m) n))
-
-records-join : (L : Lattice) (slots : List ℕ) (a m n : ℕ) → recordsFrom L slots a (m + n) ≡ recordsFrom L slots a m ++ recordsFrom L slots (a + m) n
-unfolding recordsFrom
-records-join L slots a m n = ap (each (vertexRecord L)) (used-join slots a m n) ∙ each-append (vertexRecord L) (usedFrom slots a m) (usedFrom slots (a + m) n)
 
 pub records-length : (L : Lattice) (slots : List ℕ) (a n : ℕ) → length (recordsFrom L slots a n) ≡ 4 * length (usedFrom slots a n)
 unfolding recordsFrom
@@ -64,11 +53,10 @@ module _ (L : Lattice) (slots : List ℕ) (a at : ℕ) (l : List ℤ) where
 
   pub written-more : (m n : ℕ) → sets (writtenTo L slots a m at l) (4 * (at + length (usedFrom slots a m))) (recordsFrom L slots (a + m) n)
       ≡ writtenTo L slots a (m + n) at l
-  unfolding writtenTo
+  unfolding writtenTo recordsFrom
   written-more m n =
-      let e : 4 * (at + length (usedFrom slots a m)) ≡ 4 * at + length (recordsFrom L slots a m) = omega (arith, records-length L slots a m) in
-      ap (λ (j : ℕ). sets (sets l (4 * at) (recordsFrom L slots a m)) j (recordsFrom L slots (a + m) n)) e
-      ∙ (sets-join l (recordsFrom L slots a m) (recordsFrom L slots (a + m) n) (4 * at) ∙ ap (sets l (4 * at)) (sym (records-join L slots a m n)))
+      each-behind (vertexRecord L) 4 (record-length L) at l (usedFrom slots a m) (usedFrom slots (a + m) n)
+      ∙ ap (λ (es : List ℕ). sets l (4 * at) (each (vertexRecord L) es)) (sym (used-join slots a m n))
 
   pub written-length : (n : ℕ) → length (writtenTo L slots a n at l) ≡ length l
   unfolding writtenTo

@@ -1,5 +1,5 @@
 -- By the flag. Assumes nothing.
-use mathlib.Core.Path.{_≡_, sym, ap}
+use mathlib.Core.Path.{sym, ap}
 use mathlib.Core.Bool.{Bool}
 use Rattle.cabi.specs.Named.{startIf}
 use Rattle.cabi.proofs.start_if.Statement.{statement}

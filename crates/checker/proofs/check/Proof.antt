@@ -9,13 +9,14 @@ use denote.Ref.{now}
 use Rattle.paper.specs.declared.Verdict.{Verdict}
 use Rattle.paper.specs.Lattice.{Lattice, lattice}
 use Rattle.paper.specs.Tests.{judge}
-use Rattle.paper.specs.Build.{startOf, sampleTests}
+use Rattle.paper.specs.Build.{startOf, sampleTests, clears}
 use Rattle.paper.specs.File.{fileSizes, fileTests}
 use Rattle.paper.specs.Check.{Work, work, sameSizes}
+use Rattle.paper.proofs.Passing.{sample-answer, sample-keeps, file-keeps}
 use Rattle.layout.proofs.Passing.{laid-out}
 use Rattle.ready.specs.Ready.{Begins}
 use Rattle.checker.specs.Checked.{lastTests}
-use Rattle.checker.proofs.Verdicts.{clears, sample-answer, sample-keeps, file-keeps, last-clears, all-kept, all-cleared, checked-samples, checked-file, checked-sizes, checked-last}
+use Rattle.checker.proofs.Verdicts.{last-clears, all-kept, all-cleared, checked-samples, checked-file, checked-sizes, checked-last}
 use borrow.Author.Needs.{needs}
 use Rattle.checker.proofs.check.Statement.{statement}
 use Rattle.checker.proofs.check.Tie as tie

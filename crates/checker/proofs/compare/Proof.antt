@@ -6,7 +6,8 @@ use denote.Ref.{now}
 use Rattle.paper.specs.Lattice.{Lattice, lattice}
 use Rattle.paper.specs.File.{fileV, fileT, fileVertices, fileTriangles}
 use Rattle.paper.specs.Check.{Work, work}
-use Rattle.checker.proofs.Answers.{answer-17, answer-18, answer-19-vertices, answer-19-triangles, answer-0, beyond-same, slots-beyond, seen-beyond, all-named}
+use Rattle.flood.proofs.Laws.{beyond-refl}
+use Rattle.checker.proofs.Answers.{answer-17, answer-18, answer-19-vertices, answer-19-triangles, answer-0, slots-beyond, seen-beyond, all-named}
 use borrow.Author.Needs.{needs}
 use Rattle.checker.proofs.compare.Statement.{statement}
 use Rattle.checker.proofs.compare.Tie as tie
@@ -36,7 +37,7 @@ same-length c = search needs
 returns : tie.Need-returns
 returns c = record {
   answer = answer-17 (L (c .before .before .before .before .before .before .before .before .before .before .before)) (bs (c .before .before .before .before .before .before .before .before .before .before .before)) (c .before .before .before .before .before .before .before .before .before .before .before .args .counts) (w (c .before .before .before .before .before .before .before .before .before .before .before)) (c .before .before .before .first-bad .result) (c .before .before .before .first-bad .ensures .0) (λ q. c .if1 .taken (q ∙ sym (c .before .before .before .before .before .before .vertex-count .ensures .0)));
-  waiting = beyond-same _ _;
+  waiting = beyond-refl _ _;
   slots = slots-beyond (L (c .before .before .before .before .before .before .before .before .before .before .before)) (fileVertices (bs (c .before .before .before .before .before .before .before .before .before .before .before))) (fileV (bs (c .before .before .before .before .before .before .before .before .before .before .before))) (now (c .before .before .before .before .before .before .before .before .before .before .before .args .slots)) _ (c .before .before .before .first-bad .result) (c .before .before .before .first-bad .ensures .0) (c .before .before .before .first-bad .ensures .1);
 }
 

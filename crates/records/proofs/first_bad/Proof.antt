@@ -1,6 +1,6 @@
 -- Each record before i is good, and the slots of their edges are 0. Assumes nothing.
 use mathlib.Core.Path.{_≡_, sym, ap, subst, _∙_}
-use mathlib.Core.Bool.{false}
+use mathlib.Core.Bool.{false, not}
 use mathlib.Core.List.{List}
 use Prim.Native.Nat.{ℕ, _-_, _*_, _≤_, _<_}
 use native.Mathlib.Omega.{arith}
@@ -8,12 +8,13 @@ use lib.IntN.{ℤ}
 use lib.ListN.{length, set}
 use denote.Ref.{now}
 use borrow.Author.Count.{below-more}
+use Rattle.lists.proofs.Firsts.{first-found, first-missing}
 use Rattle.paper.specs.Lattice.{Lattice, lattice}
 use Rattle.paper.specs.Build.{neededSlots}
 use Rattle.paper.specs.File.{fileV, fileVertices}
 use Rattle.measure.specs.Crossed.{AllCross}
-use Rattle.records.specs.Records.{goodEdge, slotsAfter, badIn}
-use Rattle.records.proofs.Laws.{Found, record-bad, record-good, after-none, after-more, after-length, after-crossing, bad-here, good-here, first-found, first-missing}
+use Rattle.records.specs.Records.{goodEdge, slotsAfter, badIn, firstBadIn}
+use Rattle.records.proofs.Laws.{Found, record-bad, record-good, after-none, after-more, after-length, after-crossing}
 use Rattle.records.proofs.first_bad.Statement.{statement}
 use Rattle.records.proofs.first_bad.Tie as tie
 
@@ -74,13 +75,14 @@ same-length : tie.Need-same-length Inv-loop μ-loop
 same-length c = long (c .before .before .before .before)
 
 returns : tie.Need-returns Inv-loop μ-loop
+unfolding firstBadIn badIn
 returns c =
     let s = c .before .before .before .before .before .before .before .before .before in
     let i = c .before .before .before .before .loop .i in
     let l = slotsAfter (L s) (vs s) (now (s .args .slots)) i in
     let v = c .before .before .before .before .before .vertex-count .ensures .0 in
     let b = record-bad (L s) (vs s) l i (sym (edge (c .before)) ∙ (c .if1 .taken ∙ all (c .before))) in
-    (first-found (L s) (vs s) (now (s .args .slots)) (fileV (now (s .args .bytes))) i (omega (arith, v, c .before .before .before .loop-test .taken)) (c .before .before .before .before .loop .inv .2) (bad-here (L s) (vs s) (now (s .args .slots)) i b), c .before .before .before .before .loop .inv .1)
+    (first-found (badIn (L s) (vs s) (now (s .args .slots))) (fileV (now (s .args .bytes))) i (omega (arith, v, c .before .before .before .loop-test .taken)) (c .before .before .before .before .loop .inv .2) (ap not b), c .before .before .before .before .loop .inv .1)
 
 mul-slots : tie.Need-mul-slots Inv-loop μ-loop
 mul-slots c = omega (arith, below (c), all (c .before), c .before .before .before .before .before .before .sample-count .ensures)
@@ -95,21 +97,23 @@ loop-less : tie.Need-loop-less Inv-loop μ-loop
 loop-less c = omega arith
 
 loop-again : tie.Need-loop-again Inv-loop μ-loop
+unfolding badIn
 loop-again c =
     let s = c .before .before .before .before .before .before .before .before .before in
     let i = c .before .before .before .before .loop .i in
     let f = found (c) in
-    (omega arith, (λ j. set (c .before .before .before .before .loop .inv .1 j) ((edge (c .before) ∙ f .is) j) 0) ∙ after-more (L s) (vs s) (now (s .args .slots)) i, below-more _ _ (c .before .before .before .before .loop .inv .2) (good-here (L s) (vs s) (now (s .args .slots)) i (f .good)))
+    (omega arith, (λ j. set (c .before .before .before .before .loop .inv .1 j) ((edge (c .before) ∙ f .is) j) 0) ∙ after-more (L s) (vs s) (now (s .args .slots)) i, below-more _ _ (c .before .before .before .before .loop .inv .2) (ap not (f .good)))
 
 same-length-2 : tie.Need-same-length-2 Inv-loop μ-loop
 same-length-2 c = long (c .before)
 
 returns-2 : tie.Need-returns-2 Inv-loop μ-loop
+unfolding firstBadIn
 returns-2 c =
     let s = c .before .before .before .before .before .before in
     let e : c .before .loop .i ≡ c .before .before .vertex-count .result = omega (arith, c .before .loop .inv .0, c .loop-test .left) in
     let q = e ∙ c .before .before .vertex-count .ensures .0 in
-    (c .before .before .vertex-count .ensures .0 ∙ first-missing (L s) (vs s) (now (s .args .slots)) (fileV (now (s .args .bytes))) (λ k h. c .before .loop .inv .2 k (omega arith)), c .before .loop .inv .1 ∙ ap (slotsAfter (L s) (vs s) (now (s .args .slots))) e)
+    (c .before .before .vertex-count .ensures .0 ∙ first-missing (badIn (L s) (vs s) (now (s .args .slots))) (fileV (now (s .args .bytes))) (λ k h. c .before .loop .inv .2 k (omega arith)), c .before .loop .inv .1 ∙ ap (slotsAfter (L s) (vs s) (now (s .args .slots))) e)
 
 pub first-bad-spec : {M : Type 1} → statement M
 first-bad-spec =

@@ -10,12 +10,13 @@ use denote.Ref.{now}
 use Rattle.paper.specs.Lattice.{Lattice, lattice}
 use Rattle.paper.specs.Tests.{judge}
 use Rattle.paper.specs.Build.{Lent, lent, sampleTests, outputAfter}
+use Rattle.paper.proofs.Passing.{room-tests}
 use Rattle.ready.specs.Ready.{Begins}
 use Rattle.measure.specs.declared.Counts.{Counts}
 use Rattle.measure.proofs.Measuring.{triangles-counted, triangles-listed}
 use Rattle.measure.proofs.Crossed.{all-cross}
 use Rattle.sheet.proofs.Output.{used-edges, records-are, words-are}
-use Rattle.sheet.proofs.Answers.{room-fits, refused, settled}
+use Rattle.sheet.proofs.Answers.{refused, settled}
 use Rattle.sheet.proofs.build.Statement.{statement}
 use Rattle.sheet.proofs.build.Tie as tie
 
@@ -59,7 +60,8 @@ put-sheet-requires c κs =
     let kept = c .before .before .before .before .before .before .before .before .before .before .before .measure .kept in
     let k = c .before .before .before .before .before .before .before .before .before .before .before .before .before .before .before .before .before .begin .result .cube in
     let n = c .before .before .before .before .room-number in
-    let fits = room-fits (c .before .before .before .before .before .before .before .before .before .before .before .measure .result) (length (now (s .args .vertices)) / 4) (length (now (s .args .triangles)) / 3) in (
+    let found = c .before .before .before .before .before .before .before .before .before .before .before .measure .result in
+    let fits = room-tests (found .vertices) (found .triangles) (length (now (s .args .vertices)) / 4) (length (now (s .args .triangles)) / 3) in (
       (b .full, all-cross (L s) (b .full .sized) k _ _ (m .numbered)),
       (
         (omega (arith, b .words-fit, kept), omega (arith, b .slots-fit, kept)),

@@ -1,15 +1,19 @@
 -- Test by test. Assumes nothing.
 use borrow.Author.Tests.{lt-leb, le-leb}
+use Rattle.paper.specs.Build.{roomTests}
 use Rattle.sheet.proofs.room_number.Statement.{statement}
 use Rattle.sheet.proofs.room_number.Tie as tie
 
 returns : tie.Need-returns
+unfolding roomTests
 returns c = rw (lt-leb _ _ (c .if1 .taken))
 
 returns-2 : tie.Need-returns-2
+unfolding roomTests
 returns-2 c = rw (le-leb _ _ (c .before .before .if1 .left), lt-leb _ _ (c .if2 .taken))
 
 returns-3 : tie.Need-returns-3
+unfolding roomTests
 returns-3 c = rw (le-leb _ _ (c .before .before .if1 .left), le-leb _ _ (c .if2 .left))
 
 pub room-number-spec : {M : Type 1} → statement M

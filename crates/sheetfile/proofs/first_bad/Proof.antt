@@ -6,7 +6,7 @@ use native.Mathlib.Omega.{arith}
 use borrow.Author.Count.{below-none, below-more}
 use denote.Ref.{now}
 use Rattle.paper.specs.File.{badTriangle}
-use Rattle.layout.proofs.Trailer.{bad-is, first-found, first-missing}
+use Rattle.layout.proofs.Trailer.{bad-is, bad-found, bad-missing}
 use Rattle.sheetfile.proofs.first_bad.Statement.{statement}
 use Rattle.sheetfile.proofs.first_bad.Tie as tie
 
@@ -60,7 +60,7 @@ any-from-requires c κs = omega arith
 returns : tie.Need-returns Inv-loop μ-loop
 returns c =
     let l = c .before .before .before .before .before .before .loop in
-    first-found _ _ _ (l .i) (omega arith) (l .inv .1) (sym (judged (c .before)) ∙ c .if1 .taken)
+    bad-found _ _ _ (l .i) (omega arith) (l .inv .1) (sym (judged (c .before)) ∙ c .if1 .taken)
 
 add-i : tie.Need-add-i Inv-loop μ-loop
 add-i c = omega arith
@@ -74,7 +74,7 @@ loop-again c =
     (omega arith, below-more _ (l .i) (l .inv .1) (sym (judged (c .before)) ∙ c .if1 .left))
 
 returns-2 : tie.Need-returns-2 Inv-loop μ-loop
-returns-2 c = first-missing _ _ _ (λ k h. c .before .loop .inv .1 k (omega arith))
+returns-2 c = bad-missing _ _ _ (λ k h. c .before .loop .inv .1 k (omega arith))
 
 pub first-bad-spec : {M : Type 1} → statement M
 first-bad-spec =

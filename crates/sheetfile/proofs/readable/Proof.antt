@@ -10,9 +10,11 @@ use lib.Dec.{leb}
 use lib.ListN.{length}
 use Rattle.paper.specs.declared.Verdict.{Verdict}
 use Rattle.paper.specs.Tests.{Test, judge}
+use Rattle.paper.specs.Build.{roomTests}
 use Rattle.paper.specs.File.{fileV, fileT, fileTests}
 use Rattle.paper.proofs.Judged.{judge-past, judge-stop}
-use Rattle.layout.proofs.Passing.{file-numbered, laid-out}
+use Rattle.paper.proofs.Passing.{file-numbered}
+use Rattle.layout.proofs.Passing.{laid-out}
 use borrow.Author.Needs.{needs}
 use Rattle.sheetfile.proofs.readable.Statement.{statement}
 use Rattle.sheetfile.proofs.readable.Tie as tie
@@ -48,6 +50,7 @@ vertex-count-requires : tie.Need-vertex-count-requires
 vertex-count-requires c κs = long c
 
 returns-2 : tie.Need-returns-2
+unfolding roomTests
 returns-2 c =
     let few = lt-leb (fileV (now (start (c .before .before) .args .bytes))) (start (c .before .before) .args .rv) (omega (arith, c .before .vertex-count .ensures .0)) in
     sym (further (c .before .before) _ ∙ rw few)
@@ -56,12 +59,14 @@ triangle-count-requires : tie.Need-triangle-count-requires
 triangle-count-requires c κs = long (c .before .before)
 
 returns-3 : tie.Need-returns-3
+unfolding roomTests
 returns-3 c =
     let a = start (c .before .before .before .before) .args in
     let few = lt-leb (fileT (now (a .bytes))) (a .rt) (omega (arith, c .before .triangle-count .ensures .0)) in
     sym (further (c .before .before .before .before) _ ∙ rw (roomy (c .before .before), few))
 
 returns-4 : tie.Need-returns-4
+unfolding roomTests
 returns-4 c =
     let a = start (c .before .before .before .before) .args in
     let fits = le-leb (fileT (now (a .bytes))) (a .rt) (omega (arith, c .before .triangle-count .ensures .0)) in

@@ -9,7 +9,8 @@ use Rattle.paper.specs.Lattice.{samples, cubes, cubeAt}
 use Rattle.paper.specs.Within.{CubeIn}
 use Rattle.lattice.proofs.Laws.{samples-few, low-in}
 use Rattle.survey.specs.Marks.{marks, edgesUpto, trianglesUpto, baseOf, Slotted}
-use Rattle.survey.proofs.Laws.{marks-length, marks-more, count-more}
+use Rattle.lists.proofs.Stores.{stored-length}
+use Rattle.survey.proofs.Laws.{marks-more, count-more}
 use Rattle.survey.proofs.Cubes.{first-cube, here-in, here-base, next-at, slotted, count-in, edges-in}
 use Rattle.survey.proofs.mark_all.Statement.{statement}
 use Rattle.survey.proofs.mark_all.Tie as tie
@@ -60,7 +61,7 @@ shared-slice-read-mark-word c = omega (arith, c .before .before .before .before 
 mark-word-requires : tie.Need-mark-word-requires Inv-loop μ-loop
 mark-word-requires c κs =
     let z = c .before .before .before .before .before .before .before .before .before .before .before .before .args .sizes in
-    let e : length (c .before .before .before .before .before .before .loop .slots) ≡ length (now (c .before .before .before .before .before .before .before .before .before .before .before .before .args .slots)) = ap length (c .before .before .before .before .before .before .loop .inv .2) ∙ marks-length (edgesUpto z (now (c .before .before .before .before .before .before .before .before .before .before .before .before .args .words)) (c .before .before .before .before .before .before .loop .k)) (now (c .before .before .before .before .before .before .before .before .before .before .before .before .args .slots)) in
+    let e : length (c .before .before .before .before .before .before .loop .slots) ≡ length (now (c .before .before .before .before .before .before .before .before .before .before .before .before .args .slots)) = ap length (c .before .before .before .before .before .before .loop .inv .2) ∙ stored-length 1 (edgesUpto z (now (c .before .before .before .before .before .before .before .before .before .before .before .before .args .words)) (c .before .before .before .before .before .before .loop .k)) (now (c .before .before .before .before .before .before .before .before .before .before .before .before .args .slots)) in
     let l : 7 * samples z ≤ length (c .before .before .before .before .before .before .loop .slots) = omega (arith, c .before .before .before .before .before .before .before .before .before .before .before .before .pre .2) in (
       subst (λ (b : ℕ). Slotted (c .before .before .before .before .before .before .before .before .local-steps .result) b (length (c .before .before .before .before .before .before .loop .slots))) (sym (base (c .before .before .before .before)))
           (slotted z (c .before .before .before .before .before .before .before .before .before .before .before .before .pre .0) (c .before .before .before .before .before .before .loop .k) (below (c .before .before .before .before .before)) (c .before .before .before .before .before .before .before .before .local-steps .result) (c .before .before .before .before .before .before .before .before .local-steps .ensures) (length (c .before .before .before .before .before .before .loop .slots)) l),
@@ -93,7 +94,7 @@ loop-again c =
     )
 
 same-length : tie.Need-same-length Inv-loop μ-loop
-same-length c = ap length (c .before .loop .inv .2) ∙ marks-length (edgesUpto (c .before .before .before .before .before .before .before .args .sizes) (now (c .before .before .before .before .before .before .before .args .words)) (c .before .loop .k)) (now (c .before .before .before .before .before .before .before .args .slots))
+same-length c = ap length (c .before .loop .inv .2) ∙ stored-length 1 (edgesUpto (c .before .before .before .before .before .before .before .args .sizes) (now (c .before .before .before .before .before .before .before .args .words)) (c .before .loop .k)) (now (c .before .before .before .before .before .before .before .args .slots))
 
 returns : tie.Need-returns Inv-loop μ-loop
 returns c =

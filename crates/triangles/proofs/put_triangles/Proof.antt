@@ -12,9 +12,9 @@ use Rattle.paper.specs.Lattice.{samples, cubes, cubeAt}
 use Rattle.paper.specs.Tables.{Tri}
 use Rattle.paper.specs.Within.{CubeIn}
 use Rattle.lattice.proofs.Laws.{samples-few, low-in}
-use Rattle.survey.specs.Marks.{baseOf, trianglesIn, trianglesUpto}
+use Rattle.survey.specs.Marks.{baseOf, trianglesWord, trianglesIn, trianglesUpto}
 use Rattle.survey.proofs.Cubes.{first-cube, here-in, here-base, next-at}
-use Rattle.triangles.specs.Named.{wordsFor, trianglesWord, TetSlotted}
+use Rattle.triangles.specs.Named.{wordsFor, TetSlotted}
 use Rattle.triangles.proofs.Laws.{writtenTo, written-none, written-more, written-length, written-front, word-in, cubes-none, cubes-more, cubes-fit, tet-slotted}
 use Rattle.triangles.proofs.put_triangles.Statement.{statement}
 use Rattle.triangles.proofs.put_triangles.Tie as tie

@@ -1,6 +1,6 @@
 -- Each triangle before i is fresh in its turn, and the bits are those after i. Assumes nothing.
 use mathlib.Core.Path.{_≡_, sym, ap, subst, _∙_}
-use mathlib.Core.Bool.{false}
+use mathlib.Core.Bool.{false, not}
 use mathlib.Core.List.{List}
 use Prim.Native.Nat.{ℕ, _-_, _*_, _≤_, _<_}
 use native.Mathlib.Omega.{arith}
@@ -9,13 +9,14 @@ use lib.ListN.{length}
 use denote.Ref.{now}
 use borrow.Author.Count.{below-more}
 use borrow.Author.Tests.{not-true, not-false}
+use Rattle.lists.proofs.Firsts.{first-found, first-missing}
 use Rattle.paper.specs.Lattice.{cubes}
 use Rattle.paper.specs.Build.{neededSlots}
 use Rattle.paper.specs.File.{fileT, fileVertices, fileTriangles}
 use Rattle.paper.specs.Check.{triangleOf}
 use Rattle.tetra.specs.Cut.{triOf}
-use Rattle.triples.specs.Triples.{Named, Among, Based, fresh, noted, Small, seenAfter, badIn}
-use Rattle.triples.proofs.Laws.{is-fresh, noted-small, based-first, found-fresh, found-noted, after-none, after-more, after-length, bad-here, good-here, first-found, first-missing}
+use Rattle.triples.specs.Triples.{Named, Among, Based, fresh, noted, Small, seenAfter, badIn, firstBadIn}
+use Rattle.triples.proofs.Laws.{is-fresh, noted-small, based-first, found-fresh, found-noted, after-none, after-more, after-length}
 use Rattle.triples.proofs.first_bad.Statement.{statement}
 use Rattle.triples.proofs.first_bad.Tie as tie
 
@@ -89,11 +90,12 @@ same-length : tie.Need-same-length Inv-loop μ-loop
 same-length c = let b = not-true (c .before .before .before .note .result) (c .if1 .taken) in ap length (rw b at (c .before .before .before .note .ensures .1)) ∙ long (c .before .before .before .before .before .before .before .before .before .before)
 
 returns : tie.Need-returns Inv-loop μ-loop
+unfolding firstBadIn badIn
 returns c =
     let s = c .before .before .before .before .before .before .before .before .before .before .before .before .before .before .before .before .before .before .before in
     let i = c .before .before .before .before .before .before .before .before .before .before .loop .i in
     let b = not-true (c .before .before .before .note .result) (c .if1 .taken) in
-    (first-found (s .args .sizes) (now (s .args .words)) (vs s) (ts s) (now (s .args .seen)) (fileT (now (s .args .bytes))) i (omega (arith, c .before .before .before .before .before .before .before .before .before .loop-test .taken, c .before .before .before .before .before .before .before .before .before .before .before .before .before .triangle-count .ensures)) (c .before .before .before .before .before .before .before .before .before .before .loop .inv .2) (bad-here (s .args .sizes) (now (s .args .words)) (vs s) (ts s) (now (s .args .seen)) i (sym (is (c .before .before .before)) ∙ b)), (rw b at (c .before .before .before .note .ensures .1)) ∙ c .before .before .before .before .before .before .before .before .before .before .loop .inv .1)
+    (first-found (badIn (s .args .sizes) (now (s .args .words)) (vs s) (ts s) (now (s .args .seen))) (fileT (now (s .args .bytes))) i (omega (arith, c .before .before .before .before .before .before .before .before .before .loop-test .taken, c .before .before .before .before .before .before .before .before .before .before .before .before .before .triangle-count .ensures)) (c .before .before .before .before .before .before .before .before .before .before .loop .inv .2) (ap not (sym (is (c .before .before .before)) ∙ b)), (rw b at (c .before .before .before .note .ensures .1)) ∙ c .before .before .before .before .before .before .before .before .before .before .loop .inv .1)
 
 add-i : tie.Need-add-i Inv-loop μ-loop
 add-i c = omega arith
@@ -102,6 +104,7 @@ loop-less : tie.Need-loop-less Inv-loop μ-loop
 loop-less c = omega arith
 
 loop-again : tie.Need-loop-again Inv-loop μ-loop
+unfolding badIn
 loop-again c =
     let s = c .before .before .before .before .before .before .before .before .before .before .before .before .before .before .before .before .before .before .before in
     let z = s .args .sizes in
@@ -114,7 +117,7 @@ loop-again c =
     let f = is-fresh z w (l .seen) t (sym (fresh-now (c .before .before .before)) ∙ b) in (
       omega arith,
       e ∙ ((λ j. noted z w (l .inv .1 j) (c .before .before .before .before .before .before .before .before .triangle-at .ensures .0 j)) ∙ after-more z w (vs s) (ts s) (now (s .args .seen)) (l .i)),
-      below-more _ _ (l .inv .2) (good-here z w (vs s) (ts s) (now (s .args .seen)) (l .i) (sym (is (c .before .before .before)) ∙ b)),
+      below-more _ _ (l .inv .2) (ap not (sym (is (c .before .before .before)) ∙ b)),
       subst (Small (cubes z)) (sym e) (noted-small z w (l .seen) t (omega (arith, long (c .before .before .before .before .before .before .before .before .before .before), s .pre .1 .1)) f (l .inv .3)),
       found .ensures .0 .based,
       found .ensures .1,
@@ -124,10 +127,11 @@ same-length-2 : tie.Need-same-length-2 Inv-loop μ-loop
 same-length-2 c = long (c .before)
 
 returns-2 : tie.Need-returns-2 Inv-loop μ-loop
+unfolding firstBadIn
 returns-2 c =
     let s = c .before .before .before .before .before .before .before .before .before .before in
     let e : c .before .loop .i ≡ c .before .before .before .before .triangle-count .result = omega (arith, c .before .loop .inv .0, c .loop-test .left) in
-    (c .before .before .before .before .triangle-count .ensures .0 ∙ first-missing (s .args .sizes) (now (s .args .words)) (vs s) (ts s) (now (s .args .seen)) (fileT (now (s .args .bytes))) (λ k h. c .before .loop .inv .2 k (omega (arith, c .before .before .before .before .triangle-count .ensures))), c .before .loop .inv .1 ∙ ap (seenAfter (s .args .sizes) (now (s .args .words)) (vs s) (ts s) (now (s .args .seen))) e)
+    (c .before .before .before .before .triangle-count .ensures .0 ∙ first-missing (badIn (s .args .sizes) (now (s .args .words)) (vs s) (ts s) (now (s .args .seen))) (fileT (now (s .args .bytes))) (λ k h. c .before .loop .inv .2 k (omega (arith, c .before .before .before .before .triangle-count .ensures))), c .before .loop .inv .1 ∙ ap (seenAfter (s .args .sizes) (now (s .args .words)) (vs s) (ts s) (now (s .args .seen))) e)
 
 pub first-bad-spec : {M : Type 1} → statement M
 first-bad-spec =
