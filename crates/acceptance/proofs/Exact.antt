@@ -1,14 +1,14 @@
 -- A check answers 0 exactly when sizes, start, work room and layout pass and the file holds the sheet. Assumes nothing.
 use mathlib.Core.Path.{_≡_, refl, sym, ap, subst, _∙_}
-use mathlib.Core.Bool.{true, _&&_}
+use mathlib.Core.Bool.{true}
 use mathlib.Core.List.{List, _++_, map, List·Memᴰ as In, Memᴰ·map as in-map}
 use Prim.Native.Nat.{ℕ, _≤_, _<_}
 use native.Mathlib.Omega.{arith}
 use lib.IntN.{ℤ, pos}
-use lib.Dec.{T, eqb}
-use borrow.Author.Tests.{eq-eqb, eqb-true}
+use lib.Dec.{T}
 use Rattle.lists.specs.Lists.{range, count}
-use Rattle.lists.proofs.Within.{in-list, member-any, any-member, below, in-run, map-in}
+use Rattle.lists.proofs.Member.{T→eq, eq→T}
+use Rattle.lists.proofs.Within.{same3, of-same3, in-list, member-any, any-member, below, in-run, map-in}
 use Rattle.lists.proofs.Counts.{count-some, count-map, count-same, few}
 use Rattle.lists.proofs.Closure.{bool-same}
 use Rattle.paper.specs.declared.Sizes.{Sizes}
@@ -22,7 +22,7 @@ use Rattle.paper.specs.Tests.{Test, judge}
 use Rattle.paper.specs.Build.{startOf, sampleTests}
 use Rattle.paper.specs.File.{fileV, fileT, fileSizes, fileVertices, fileTriangles, fileTests}
 use Rattle.paper.specs.Check.{sameNumbers, sameSizes, turned, recordOf, edgeOf, triangleOf, sheetTests, checked}
-use Rattle.paper.proofs.Judged.{both, Passed, both-passed, judge-all, passed-judge}
+use Rattle.paper.proofs.Judged.{Passed, both-passed, judge-all, passed-judge}
 use Rattle.paper.proofs.Listing.{edges-unique}
 use Rattle.paper.proofs.Records.{same-numbers, numbers-same, edges-same, record-edge, record-named, one-edge}
 use Rattle.paper.proofs.Tested.{Recorded, Listed, compared, compared-back}
@@ -142,17 +142,12 @@ module _ (L : Lattice) (s : Sized (L .size)) (start : ℕ) (h : start < cubes (L
 same-sizes : (y z : Sizes) → sameSizes y z ≡ true → y ≡ z
 unfolding sameSizes
 same-sizes y z e =
-    let a = both (eqb (y .nx) (z .nx) && eqb (y .ny) (z .ny)) (eqb (y .nz) (z .nz)) e in
-    let b = both (eqb (y .nx) (z .nx)) (eqb (y .ny) (z .ny)) (a .0) in
-    let nx = eqb-true (y .nx) (z .nx) (b .0) in
-    let ny = eqb-true (y .ny) (z .ny) (b .1) in
-    let nz = eqb-true (y .nz) (z .nz) (a .1) in
-    λ i. record { nx = nx i; ny = ny i; nz = nz i }
+    let a = same3 (y .nx) (y .ny) (y .nz) (z .nx) (z .ny) (z .nz) (eq→T e) in
+    λ i. record { nx = a .0 i; ny = a .1 i; nz = a .2 i }
 
 sizes-same : (y z : Sizes) → y ≡ z → sameSizes y z ≡ true
 unfolding sameSizes
-sizes-same y z e =
-    rw (eq-eqb (y .nx) (z .nx) (ap (λ (k : Sizes). k .nx) e), eq-eqb (y .ny) (z .ny) (ap (λ (k : Sizes). k .ny) e), eq-eqb (y .nz) (z .nz) (ap (λ (k : Sizes). k .nz) e))
+sizes-same y z e = T→eq _ (of-same3 (ap (λ (k : Sizes). k .nx) e) (ap (λ (k : Sizes). k .ny) e) (ap (λ (k : Sizes). k .nz) e))
 
 module _ (L : Lattice) (s : Start) (bs : List ℕ) (w q e : ℕ) where
   abbrev start : ℕ

@@ -8,6 +8,7 @@ use mathlib.Core.Bool.{Bool, true, false, cond}
 use lib.IntN.{ℤ, pos, negsuc, _+ℤ_}
 use mir.Syntax.{w32}
 use mir.Val.{SFits}
+use Rattle.lists.specs.Bytes.{signed}
 use Rattle.paper.specs.File.{bits32, signed32}
 
 -- x and 2 ^ 32, which is not negative
@@ -35,23 +36,24 @@ unfolding bits32
 bits-small (pos n) f = omega (arith, f .sfits)
 bits-small (negsuc n) f = omega arith
 
-pub signed-low : (b : ℕ) → b < 2147483648 → signed32 b ≡ pos b
-unfolding signed32
-signed-low b h = rw (lt-ltb b 2147483648 h)
+-- at any width
+pub signed-low : (half b : ℕ) → b < half → signed half b ≡ pos b
+unfolding signed
+signed-low half b h = rw (lt-ltb b half h)
 
-pub signed-high : (b : ℕ) → 2147483648 ≤ b → signed32 b ≡ negsuc (4294967295 - b)
-unfolding signed32
-signed-high b h = rw (le-ltb b 2147483648 h)
+pub signed-high : (half b : ℕ) → half ≤ b → signed half b ≡ negsuc (half + half - 1 - b)
+unfolding signed
+signed-high half b h = rw (le-ltb b half h)
 
 -- every signed number comes back from its bits
 pub signed-bits : (x : ℤ) → SFits w32 x → signed32 (bits32 x) ≡ x
 unfolding bits32
-signed-bits (pos n) f = signed-low n (omega (arith, f .sfits))
-signed-bits (negsuc n) f = signed-high (4294967295 - n) (omega (arith, f .sfits)) ∙ ap negsuc (omega (arith, f .sfits))
+signed-bits (pos n) f = signed-low 2147483648 n (omega (arith, f .sfits))
+signed-bits (negsuc n) f = signed-high 2147483648 (4294967295 - n) (omega (arith, f .sfits)) ∙ ap negsuc (omega (arith, f .sfits))
 
 -- and all bits from their signed number
 pub bits-signed : (b : ℕ) → b < 4294967296 → bits32 (signed32 b) ≡ b
-unfolding bits32 signed32
+unfolding bits32 signed
 bits-signed b h = go (ltb b 2147483648)
   where
     go : (t : Bool) → bits32 (cond t (pos b) (negsuc (4294967295 - b))) ≡ b

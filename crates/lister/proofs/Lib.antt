@@ -1,5 +1,4 @@
 -- Laws of what the listing program reads and answers.
-pub mod Signed
 pub mod Passing
 pub mod Answers
 pub mod Fits

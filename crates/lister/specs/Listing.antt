@@ -2,12 +2,12 @@
 use mathlib.Core.Path.{_≡_}
 use mathlib.Core.Bool.{Bool, cond, _&&_}
 use mathlib.Core.List.{List, [], _∷_, map}
-use Prim.Native.Nat.{ℕ, _+_, _-_, _*_}
-use lib.IntN.{ℤ, pos, negsuc}
-use lib.Dec.{ltb, leb, eqb}
+use Prim.Native.Nat.{ℕ, _+_, _*_}
+use lib.IntN.{ℤ}
+use lib.Dec.{leb, eqb}
 use lib.ListN.{length, replicate}
 use Rattle.lists.specs.Lists.{range}
-use Rattle.lists.specs.Bytes.{field}
+use Rattle.lists.specs.Bytes.{signed, field}
 use Rattle.paper.specs.declared.Sizes.{Sizes}
 use Rattle.paper.specs.declared.Built.{Built}
 use Rattle.paper.specs.declared.Start.the-variants.{Unnamed}
@@ -16,8 +16,8 @@ use Rattle.paper.specs.Tests.{Test, test, judge}
 use Rattle.paper.specs.Build.{Lent, lent, uncounted, built, lentAfter}
 
 -- the signed 16-bit number that bits give
-unfoldable pub signed16 : ℕ → ℤ
-signed16 n = cond (ltb n 32768) (pos n) (negsuc (65535 - n))
+abbrev pub signed16 : ℕ → ℤ
+signed16 n = signed 32768 n
 
 -- "nx, ny, nz (u16)", "little-endian"
 unfoldable pub listedSizes : List ℕ → Sizes

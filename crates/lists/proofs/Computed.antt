@@ -20,7 +20,7 @@ upto-at (suc n) f t k h = go (λ l. upto-at n f (and-right (f n) (upto n f) t) k
     go below (yes l) = below l
     go below (no l) = let e : n ≡ k = omega arith in subst (λ (m : ℕ). T (f m)) e (and-left (f n) (upto n f) t)
 
--- at both sides, and at eight sides
+-- at both sides, at six sides and at eight
 abbrev pub both : (Bool → Bool) → Bool
 both f = f true && f false
 
@@ -28,29 +28,29 @@ pub both-at : (f : Bool → Bool) → T (both f) → (b : Bool) → T (f b)
 both-at f t true = and-left (f true) (f false) t
 both-at f t false = and-right (f true) (f false) t
 
+abbrev pub Test6 : Type 0
+Test6 = Bool → Bool → Bool → Bool → Bool → Bool → Bool
+
+abbrev pub every6 : Test6 → Bool
+every6 f = both λ c. both λ d. both λ e. both λ g. both λ h. both λ i. f c d e g h i
+
+pub every6-at : (f : Test6) → T (every6 f) → (c d e g h i : Bool) → T (f c d e g h i)
+every6-at f t c d e g h i =
+    both-at (λ i. f c d e g h i)
+    (both-at (λ h. both λ i. f c d e g h i)
+    (both-at (λ g. both λ h. both λ i. f c d e g h i)
+    (both-at (λ e. both λ g. both λ h. both λ i. f c d e g h i)
+    (both-at (λ d. both λ e. both λ g. both λ h. both λ i. f c d e g h i)
+    (both-at (λ c. both λ d. both λ e. both λ g. both λ h. both λ i. f c d e g h i) t c) d) e) g) h) i
+
 abbrev pub Test8 : Type 0
-Test8 = Bool → Bool → Bool → Bool → Bool → Bool → Bool → Bool → Bool
+Test8 = Bool → Bool → Test6
 
 abbrev pub every8 : Test8 → Bool
-every8 f = both λ a. both λ b. both λ c. both λ d. both λ e. both λ g. both λ h. both λ i. f a b c d e g h i
+every8 f = both λ a. both λ b. every6 (f a b)
 
 pub every8-at : (f : Test8) → T (every8 f) → (a b c d e g h i : Bool) → T (f a b c d e g h i)
-every8-at f t a b c d e g h i =
-    both-at (λ i. f a b c d e g h i)
-    (both-at (λ h. both λ i. f a b c d e g h i)
-    (both-at (λ g. both λ h. both λ i. f a b c d e g h i)
-    (both-at (λ e. both λ g. both λ h. both λ i. f a b c d e g h i)
-    (both-at (λ d. both λ e. both λ g. both λ h. both λ i. f a b c d e g h i)
-    (both-at (λ c. both λ d. both λ e. both λ g. both λ h. both λ i. f a b c d e g h i)
-    (both-at (λ b. both λ c. both λ d. both λ e. both λ g. both λ h. both λ i. f a b c d e g h i)
-    (both-at (λ a. both λ b. both λ c. both λ d. both λ e. both λ g. both λ h. both λ i. f a b c d e g h i) t a)
-    b)
-    c)
-    d)
-    e)
-    g)
-    h)
-    i
+every8-at f t a b = every6-at (f a b) (both-at (λ b. every6 (f a b)) (both-at (λ a. both λ b. every6 (f a b)) t a) b)
 
 -- six cases
 pub below6 : (P : ℕ → Type 0) → P 0 → P 1 → P 2 → P 3 → P 4 → P 5 → (k : ℕ) → k < 6 → P k

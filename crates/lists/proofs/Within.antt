@@ -8,7 +8,7 @@ use native.Mathlib.Omega.{arith}
 use lib.Dec.{T, eqb, eqb→eq, eqb-refl, T-not, not-T}
 use lib.ListN.{length, getD}
 use Rattle.lists.specs.Lists.{range, consIf, keep, any, all, each, isIn}
-use Rattle.lists.proofs.Member.{T→eq, eq→T, or-left, or-right, and-both, and-left, and-right, in-range, range-in}
+use Rattle.lists.proofs.Member.{T→eq, eq→T, or-left, or-right, and-both, and-left, and-right, and3, both3, in-range, range-in}
 use Rattle.lists.proofs.Every.{All, any-with}
 use Rattle.lists.proofs.Runs.{each-append}
 
@@ -18,6 +18,13 @@ T→false false h = refl
 
 pub eqb-of : {a b : ℕ} → a ≡ b → T (eqb a b)
 eqb-of {a} e = subst (λ (k : ℕ). T (eqb a k)) e (eqb-refl a)
+
+-- three numbers at once
+pub same3 : (a b c x y z : ℕ) → T (eqb a x && eqb b y && eqb c z) → (a ≡ x) × (b ≡ y) × (c ≡ z)
+same3 a b c x y z t = let e = and3 (eqb a x) (eqb b y) (eqb c z) t in (eqb→eq a x (e .0), eqb→eq b y (e .1), eqb→eq c z (e .2))
+
+pub of-same3 : {a b c x y z : ℕ} → a ≡ x → b ≡ y → c ≡ z → T (eqb a x && eqb b y && eqb c z)
+of-same3 {a} {b} {c} {x} {y} {z} p q r = both3 (eqb a x) (eqb b y) (eqb c z) (eqb-of p) (eqb-of q) (eqb-of r)
 
 -- one of a list of tests that all pass
 pub holds : (l : List Bool) → T (all (λ b. b) l) → (i : ℕ) → T (getD l i true)

@@ -5,10 +5,10 @@ use Prim.Native.Nat.{ℕ, _<_}
 use lib.ListN.{length}
 use Rattle.lists.proofs.Within.{of-all}
 use Rattle.paper.specs.Lattice.{Lattice, cubes}
-use Rattle.paper.specs.Within.{Sized}
+use Rattle.paper.specs.Within.{Sized, Below}
 use Rattle.paper.specs.Tables.{Tri}
 use Rattle.paper.specs.Sheet.{Sheet, sheetOf}
-use Rattle.paper.proofs.Listing.{Below, edges-unique, indices-below, indices-name}
+use Rattle.paper.proofs.Listing.{edges-unique, indices-below, indices-name}
 use Rattle.pairing.specs.Pairing.{Paired, outer, Demand3}
 use Rattle.pairing.proofs.Names.{by-number, times-below}
 use Rattle.pairing.proofs.Sheets.{by-edge}

@@ -19,7 +19,8 @@ use Rattle.paper.specs.Check.{turned, edgeOf, cornerOf, triangleOf}
 use Rattle.paper.proofs.Records.{record-edge}
 use Rattle.paper.proofs.Tested.{Recorded}
 use Rattle.paper.proofs.Passing.{Accepted}
-use Rattle.paper.proofs.Listing.{Below, named}
+use Rattle.paper.specs.Within.{Below}
+use Rattle.paper.proofs.Listing.{named}
 use Rattle.pairing.specs.Pairing.{outer, Paired, OneVertex, Demand3, fileEdges, fileCorner, fileCorners}
 use Rattle.lists.proofs.Within.{members, list-in, in-list, member-any, any-member, below, in-run, map-in}
 use Rattle.lists.proofs.Counts.{pick, along-unique, range-unique, count-unique, Unique}

@@ -10,7 +10,8 @@ use Rattle.lists.specs.Lists.{each, count}
 use Rattle.lists.proofs.Every.{each-map}
 use Rattle.lists.proofs.Closure.{bool-same}
 use Rattle.paper.specs.Tables.{Tri}
-use Rattle.paper.proofs.Listing.{Below, named}
+use Rattle.paper.specs.Within.{Below}
+use Rattle.paper.proofs.Listing.{named}
 use Rattle.pairing.specs.Pairing.{Arrow, arrow, around, isArrow, times, Paired}
 use Rattle.lists.proofs.Within.{eqb-of, map-each, each-in, nth-in}
 use Rattle.lists.proofs.Counts.{pick, count-map, count-same, count-unique, one-place, Unique}

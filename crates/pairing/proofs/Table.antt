@@ -10,7 +10,7 @@ use lib.ListN.{getD, List·getD-map}
 use Rattle.lists.specs.Lists.{range, keep, any, all, each, count}
 use Rattle.lists.proofs.Member.{T→eq, or-cases, and-both, and-left, and-right, and3, both3}
 use Rattle.lists.proofs.Every.{all-test, all-getD, each-map}
-use Rattle.lists.proofs.Computed.{both, both-at}
+use Rattle.lists.proofs.Computed.{every6, every6-at}
 use Rattle.paper.specs.declared.Place.{Place}
 use Rattle.paper.specs.Lattice.{place, corner, mixed}
 use Rattle.paper.specs.Tables.{Ends, Tet, Tri, ends, tri, tets, rows, tetEdges, kinds, low, joins, kindOf}
@@ -203,7 +203,7 @@ part a b =
     let x = faceX cs in
     let y = faceY cs in
     let z = faceZ cs in
-    both λ c. both λ d. both λ e. both λ g. both λ h. both λ i. test cs x y z (pick8 a b c d e g h i)
+    every6 λ c d e g h i. test cs x y z (pick8 a b c d e g h i)
 
 part-tt : T (part true true)
 unfolding cells cellOf faceX faceY faceZ faceSides test faced lowRow highRow good lows highs turned alike sidesIn same flat span sideOf codeTri codeAt code rowOf tets rows tetEdges kinds low joins kindOf corner mixed lowFace highFace around
@@ -231,13 +231,7 @@ abbrev passes : Bool → Bool → Bool → Bool → Bool → Bool → Bool → B
 passes a b c d e g h i = test cells (faceX cells) (faceY cells) (faceZ cells) (pick8 a b c d e g h i)
 
 each-pattern : (a b c d e g h i : Bool) → T (passes a b c d e g h i)
-each-pattern a b c d e g h i =
-    both-at (λ i. passes a b c d e g h i)
-    (both-at (λ h. both λ i. passes a b c d e g h i)
-    (both-at (λ g. both λ h. both λ i. passes a b c d e g h i)
-    (both-at (λ e. both λ g. both λ h. both λ i. passes a b c d e g h i)
-    (both-at (λ d. both λ e. both λ g. both λ h. both λ i. passes a b c d e g h i)
-    (both-at (λ c. both λ d. both λ e. both λ g. both λ h. both λ i. passes a b c d e g h i) (parts a b) c) d) e) g) h) i
+each-pattern a b = every6-at (passes a b) (parts a b)
 
 -- ── a cube whose corners have any sides ──
 

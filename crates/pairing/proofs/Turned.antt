@@ -6,14 +6,14 @@ use mathlib.Core.List.{List, [], map, List·Memᴰ as In}
 use mathlib.Core.Logic.{inl, inr}
 use Prim.Native.Nat.{ℕ, zero, suc, _≤_, _<_}
 use native.Mathlib.Omega.{arith}
-use lib.Dec.{T, eqb, eqb→eq}
+use lib.Dec.{T}
 use lib.ListN.{length}
 use Rattle.lists.specs.Lists.{consIf, count}
-use Rattle.lists.proofs.Member.{or-cases, or-left, or-right, and3, both3}
+use Rattle.lists.proofs.Member.{or-cases, or-left, or-right}
 use Rattle.paper.specs.Tables.{Tri, tri}
 use Rattle.paper.specs.Check.{sameTriangle, turned}
 use Rattle.pairing.specs.Pairing.{Arrow, arrow, around, isArrow, times}
-use Rattle.lists.proofs.Within.{eqb-of}
+use Rattle.lists.proofs.Within.{same3, of-same3}
 use Rattle.lists.proofs.Counts.{sum, sum-none, sum-some, part-le, one-member, sum-map, count-each, Unique, sum-one, by-order}
 
 abbrev rot : Tri → Tri
@@ -27,17 +27,13 @@ pub data Turned (t u : Tri) : Type 0 where
 same-triangle : (t u : Tri) → T (sameTriangle t u) → t ≡ u
 unfolding sameTriangle
 same-triangle t u h =
-    let e = and3 (eqb (t .a) (u .a)) (eqb (t .b) (u .b)) (eqb (t .c) (u .c)) h in
-    let a = eqb→eq (t .a) (u .a) (e .0) in
-    let b = eqb→eq (t .b) (u .b) (e .1) in
-    let c = eqb→eq (t .c) (u .c) (e .2) in
-    λ i. tri (a i) (b i) (c i)
+    let e = same3 (t .a) (t .b) (t .c) (u .a) (u .b) (u .c) h in
+    λ i. tri (e .0 i) (e .1 i) (e .2 i)
 
 triangle-same : {t u : Tri} → t ≡ u → T (sameTriangle t u)
 unfolding sameTriangle
 triangle-same {t} {u} e =
-    both3 (eqb (t .a) (u .a)) (eqb (t .b) (u .b)) (eqb (t .c) (u .c)) (eqb-of (ap (λ (s : Tri). s .a) e)) (eqb-of (ap (λ (s : Tri). s .b) e))
-    (eqb-of (ap (λ (s : Tri). s .c) e))
+    of-same3 (ap (λ (s : Tri). s .a) e) (ap (λ (s : Tri). s .b) e) (ap (λ (s : Tri). s .c) e)
 
 pub is-turned : (t u : Tri) → T (turned t u) → Turned t u
 unfolding turned

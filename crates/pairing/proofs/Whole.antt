@@ -8,14 +8,14 @@ use Prim.Native.Nat.{ℕ, _+_, _-_, _/_, _%_}
 use native.Mathlib.Omega.{arith}
 use lib.Dec.{T, eqb, eqb→eq, lt→ltb}
 use Rattle.lists.specs.Lists.{each, count}
-use Rattle.lists.proofs.Member.{T→eq, eq→T, or-cases, and-both, and-left, and-right, and3, both3}
+use Rattle.lists.proofs.Member.{T→eq, eq→T, or-cases, and-both, and-left, and-right}
 use Rattle.paper.specs.declared.Sizes.{Sizes}
 use Rattle.paper.specs.declared.Place.{Place}
 use Rattle.paper.specs.Lattice.{place, corner, mixed, Face, faces}
 use Rattle.paper.specs.Within.{CubeIn}
 use Rattle.pairing.specs.Pairing.{around, isArrow, times}
 use Rattle.pairing.specs.Visitable.{trianglesAt, samePlace, shared}
-use Rattle.lists.proofs.Within.{T→false, eqb-of, each-each}
+use Rattle.lists.proofs.Within.{same3, of-same3, T→false, each-each}
 use Rattle.lists.proofs.Counts.{count-each, sum, sum-one, sum-none, sum-some, Unique}
 use Rattle.pairing.proofs.Table.{same, sides, Good, flat, flat-cases, Axis, lowFace, highFace}
 use Rattle.pairing.proofs.Sides.{side-good, at, hits, Known, turn-known, Found, found, Spot, spot, hits-at, hits-before, hits-after, corner-zero, corner-inj}
@@ -61,17 +61,13 @@ off o d p e = (ap (λ (r : Place). r .x) e, ap (λ (r : Place). r .y) e, ap (λ 
 same-place : (p q : Place) → T (samePlace p q) → p ≡ q
 unfolding samePlace
 same-place p q t =
-    let e = and3 (eqb (p .x) (q .x)) (eqb (p .y) (q .y)) (eqb (p .z) (q .z)) t in
-    let x = eqb→eq (p .x) (q .x) (e .0) in
-    let y = eqb→eq (p .y) (q .y) (e .1) in
-    let w = eqb→eq (p .z) (q .z) (e .2) in
-    at-place p (q .x) (q .y) (q .z) x y w
+    let e = same3 (p .x) (p .y) (p .z) (q .x) (q .y) (q .z) t in
+    at-place p (q .x) (q .y) (q .z) (e .0) (e .1) (e .2)
 
 place-same : {p q : Place} → p ≡ q → T (samePlace p q)
 unfolding samePlace
 place-same {p} {q} e =
-    both3 (eqb (p .x) (q .x)) (eqb (p .y) (q .y)) (eqb (p .z) (q .z)) (eqb-of (ap (λ (r : Place). r .x) e)) (eqb-of (ap (λ (r : Place). r .y) e))
-    (eqb-of (ap (λ (r : Place). r .z) e))
+    of-same3 (ap (λ (r : Place). r .x) e) (ap (λ (r : Place). r .y) e) (ap (λ (r : Place). r .z) e)
 
 module _ (may : Place → Bool) (f : ℕ) (m : Place) where
   abbrev back : Place

@@ -19,7 +19,7 @@ use Rattle.paper.specs.declared.Place.{Place}
 use Rattle.paper.specs.Lattice.{Lattice, samples, sampleAt, airAt, corner, cubes, cubeAt, visited}
 use Rattle.paper.specs.Tables.{Tet, Tri, ends, tri, tets, rows, tetEdges, kinds}
 use Rattle.paper.specs.Sheet.{Sheet, edgeNo, split, cubeEdges, vertexEdges, recordAt, vertexRecord, rowAt, tetEdge, triEdges, cubeTriangles, numbered, sheetOf, vertexWords, corners3, triangleWords}
-use Rattle.paper.specs.Within.{Sized}
+use Rattle.paper.specs.Within.{Sized, Below}
 use Rattle.paper.proofs.Visits.{visited-lt}
 use Rattle.paper.proofs.Tables.{differ, differs, row-differs}
 use Rattle.paper.proofs.Edges.{Standing, cube-edges-stand, cube-edges-lt}
@@ -130,12 +130,6 @@ cubes-among L vs =
     vs (λ e h. h)
 
 -- ── the sheet ──
-
--- a triangle by vertices names vertices that there are
-pub record Below (n : ℕ) (t : Tri) : Type 0 where
-  pub a : t .a < n
-  pub b : t .b < n
-  pub c : t .c < n
 
 -- a triangle whose corners are named otherwise
 unfoldable pub named : (ℕ → ℕ) → Tri → Tri

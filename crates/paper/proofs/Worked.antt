@@ -8,7 +8,7 @@ use lib.IntN.{ℤ, pos, negsuc, natAbs}
 use lib.Dec.{eqb}
 use lib.ListN.{length, getD, set, replicate, take, drop}
 use Rattle.lists.specs.Lists.{range, keep}
-use Rattle.lists.specs.Bytes.{field}
+use Rattle.lists.specs.Bytes.{signed, field}
 use Rattle.lists.specs.Reach.{grow, rounds, reached}
 use Rattle.paper.specs.declared.Sizes.{Sizes}
 use Rattle.paper.specs.declared.Start.{Start}
@@ -109,7 +109,7 @@ fourth : ℕ → ℕ
 fourth n = n / 4
 
 outcome : Case → List ℕ
-unfolding third fourth grow rounds reached axis axes samples air sampleNo sampleAt valueAt airAt cubes cubeNo cubeAt corner mixed mixedAt crossed inLattice faces stepOver steps visited lowest tets rows tetEdges kinds low joins kindOf edgeNo split cubeEdges vertexEdges crossing coordinate recordAt vertexRecord rowOf rowAt tetEdge triEdges cubeTriangles numbered sheetOf vertexWords triangleWords xor roomy sampleTests roomTests buildNumber built workAfter outputAfter lentAfter field bits32 signed32 trailerAt fileLength trailerBytes fileBytes badTriangle firstBad limits writeVerdict wrote trailer fileV fileT fileSizes fileVertices fileTriangles laidOut fileTests readVerdict got sameSizes sameTriangle turned recordOf edgeOf badRecord cornerOf triangleOf badNaming complete sheetTests checked
+unfolding third fourth grow rounds reached axis axes samples air sampleNo sampleAt valueAt airAt cubes cubeNo cubeAt corner mixed mixedAt crossed inLattice faces stepOver steps visited lowest tets rows tetEdges kinds low joins kindOf edgeNo split cubeEdges vertexEdges crossing coordinate recordAt vertexRecord rowOf rowAt tetEdge triEdges cubeTriangles numbered sheetOf vertexWords triangleWords xor roomy sampleTests roomTests buildNumber built workAfter outputAfter lentAfter field bits32 signed trailerAt fileLength trailerBytes fileBytes badTriangle firstBad limits writeVerdict wrote trailer fileV fileT fileSizes fileVertices fileTriangles laidOut fileTests readVerdict got sameSizes sameTriangle turned recordOf edgeOf badRecord cornerOf triangleOf badNaming complete sheetTests checked
 outcome (builds nv nt L s) = answer (built L s (room nv nt))
 outcome (lists L s) = listed L (sheetOf L (startOf L s))
 outcome (files L) = let S = sheetOf L (startOf L Unnamed) in filed (file L S (length (S .triangles)) (triangleWords S))

@@ -4,10 +4,10 @@ use mathlib.Core.Bool.{Bool, cond, _&&_}
 use mathlib.Core.List.{List, [], _∷_, _++_, map}
 use Prim.Native.Nat.{ℕ, _+_, _-_, _*_}
 use lib.IntN.{ℤ, pos, negsuc}
-use lib.Dec.{ltb, leb, eqb}
+use lib.Dec.{leb, eqb}
 use lib.ListN.{length, getD, take}
 use Rattle.lists.specs.Lists.{range, any, each, first}
-use Rattle.lists.specs.Bytes.{le, field}
+use Rattle.lists.specs.Bytes.{le, signed, field}
 use Rattle.paper.specs.declared.Sizes.{Sizes}
 use Rattle.paper.specs.declared.Verdict.{Verdict}
 use Rattle.paper.specs.declared.Wrote.{Wrote}
@@ -21,8 +21,8 @@ unfoldable pub bits32 : ℤ → ℕ
 bits32 (pos n) = n
 bits32 (negsuc n) = 4294967295 - n
 
-unfoldable pub signed32 : ℕ → ℤ
-signed32 n = cond (ltb n 2147483648) (pos n) (negsuc (4294967295 - n))
+abbrev pub signed32 : ℕ → ℤ
+signed32 n = signed 2147483648 n
 
 -- what a file holds: V vertex records of four numbers, T triangles of three, and the sizes
 pub record Content : Type 0 where

@@ -1,10 +1,11 @@
--- What inner functions ask of their arguments: sizes that pass test 1, places that are in the lattice. Assumes nothing.
+-- What inner functions ask of their arguments: sizes that pass test 1, places that are in the lattice, numbers below a bound. Assumes nothing.
 use mathlib.Core.Path.{_≡_}
-use Prim.Native.Nat.{_+_, _≤_, _<_}
+use Prim.Native.Nat.{ℕ, _+_, _≤_, _<_}
 use lib.ListN.{length}
 use Rattle.paper.specs.declared.Sizes.{Sizes}
 use Rattle.paper.specs.declared.Place.{Place}
 use Rattle.paper.specs.Lattice.{Lattice, samples}
+use Rattle.paper.specs.Tables.{Tri}
 
 -- sizes that pass test 1
 pub record Sized (n : Sizes) : Type 0 where
@@ -25,6 +26,12 @@ pub record SampleIn (n : Sizes) (p : Place) : Type 0 where
   pub x : p .x < n .nx
   pub y : p .y < n .ny
   pub z : p .z < n .nz
+
+-- a triangle whose three numbers are below n
+pub record Below (n : ℕ) (t : Tri) : Type 0 where
+  pub a : t .a < n
+  pub b : t .b < n
+  pub c : t .c < n
 
 -- a place of a cube
 pub record CubeIn (n : Sizes) (p : Place) : Type 0 where

@@ -5,7 +5,6 @@ use mathlib.Core.List.{List, [], _∷_, _++_, append-nil}
 use Prim.Native.Nat.{ℕ, _+_, _*_, _%_, _≤_, _<_}
 use native.Mathlib.Omega.{arith}
 use native.Mathlib.Numerals.{add-one}
-use lib.Dec.{eqb}
 use lib.ListN.{length, getD, take, length-append}
 use lib.Seq.{sets, length-sets, take-suc, take-all, length-take-le}
 use borrow.Author.Tests.{eq-eqb, ne-eqb}
@@ -16,9 +15,8 @@ use Rattle.paper.specs.declared.Sizes.{Sizes}
 use Rattle.paper.specs.Lattice.{samples, cubes, cubeAt, corner}
 use Rattle.paper.specs.Tables.{Tri, tri, low}
 use Rattle.paper.specs.Sheet.{corners3}
-use Rattle.paper.specs.Within.{Sized}
+use Rattle.paper.specs.Within.{Sized, Below}
 use Rattle.paper.proofs.Numbers.{sample-lt, cube-inside, corner-inside}
-use Rattle.paper.proofs.Listing.{Below}
 use Rattle.lattice.proofs.Laws.{corner-no}
 use Rattle.tetra.specs.Cut.{tetEnds, edgeStep, tetStep, rowBy, rowCount, rowEdge, rowTriangles, trianglesBy}
 use Rattle.paper.proofs.Tables.{kind-lt}

@@ -21,12 +21,6 @@ use Rattle.triples.specs.declared.Spot.{Spot}
 pub record Named (n : ℕ) (vs : List ℤ) (nv : ℕ) : Type 0 where
   pub below : (i : ℕ) → i < nv → edgeIn (edgeOf vs i) n < n
 
--- the edges of a triangle are among n
-pub record Among (n : ℕ) (t : Tri) : Type 0 where
-  pub a : t .a < n
-  pub b : t .b < n
-  pub c : t .c < n
-
 -- the cube that can hold a triangle: at the least x, y and z of the anchors of its edges
 unfoldable pub holder : Sizes → Tri → ℕ
 holder z t =

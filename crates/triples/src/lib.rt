@@ -7,14 +7,14 @@ ghost use Prim.Native.Nat.{_%_, _^_, min, _≤_, _<_, _*_};
 ghost use lib.Dec.{eqb};
 ghost use lib.ListN.{length, getD};
 ghost use Rattle.paper.specs.Lattice.{cubes};
-ghost use Rattle.paper.specs.Within.{Sized};
+ghost use Rattle.paper.specs.Within.{Sized, Below};
 ghost use Rattle.paper.specs.Build.{neededSlots};
 ghost use Rattle.paper.specs.File.{fileV, fileT, fileVertices, fileTriangles};
 ghost use Rattle.paper.specs.Check.{sameTriangle, turned, cornerOf, triangleOf};
 ghost use Rattle.sides.specs.Pattern.{bitOf};
 ghost use Rattle.tetra.specs.Cut.{tetCorners, rowSteps, triOf};
 ghost use Rattle.layout.specs.Laid.{LaidOut};
-ghost use Rattle.triples.specs.Triples.{Named, Among, holder, isAt, placeFrom, Sure, Based, Found, freshAt, notedAt, Small, seenAfter, firstBadIn};
+ghost use Rattle.triples.specs.Triples.{Named, holder, isAt, placeFrom, Sure, Based, Found, freshAt, notedAt, Small, seenAfter, firstBadIn};
 
 // A place of a cube, 12 for none, and 7 × the number of the cube's lowest sample.
 pub struct Spot {
@@ -77,7 +77,7 @@ fn least(a: usize, b: usize, c: usize) -> usize
 
 // The number of the cube that can hold t.
 fn holder_of(sizes: Sizes, t: Triangle) -> usize
-    requires { ⌜ Sized sizes × Among (neededSlots sizes) (triOf t) ⌝ }
+    requires { ⌜ Sized sizes × Below (neededSlots sizes) (triOf t) ⌝ }
     ensures { λ r. ⌜ r ≡ holder sizes (triOf t) ⌝ }
 {
     let a = records::anchor_of(sizes, t.a);
@@ -162,7 +162,7 @@ fn search(
     steps: &[usize; 576],
     t: Triangle,
 ) -> Spot
-    requires { ⌜ Sized sizes × (now corners ≡ tetCorners) × (now steps ≡ rowSteps sizes) × Among (neededSlots sizes) (triOf t) × (cubes sizes ≤ length (now words)) ⌝ }
+    requires { ⌜ Sized sizes × (now corners ≡ tetCorners) × (now steps ≡ rowSteps sizes) × Below (neededSlots sizes) (triOf t) × (cubes sizes ≤ length (now words)) ⌝ }
     ensures { λ r. ⌜ Found sizes (now (words .entry)) (triOf t) r × (r .place ≤ 12) ⌝ }
 {
     let k = holder_of(sizes, t);
@@ -192,7 +192,7 @@ fn find(
     last: Spot,
     t: Triangle,
 ) -> Spot
-    requires { ⌜ Sized sizes × (now corners ≡ tetCorners) × (now steps ≡ rowSteps sizes) × Among (neededSlots sizes) (triOf t) × (cubes sizes ≤ length (now words)) ⌝ }
+    requires { ⌜ Sized sizes × (now corners ≡ tetCorners) × (now steps ≡ rowSteps sizes) × Below (neededSlots sizes) (triOf t) × (cubes sizes ≤ length (now words)) ⌝ }
     requires { ⌜ Sure sizes (now words) × Based sizes last × (last .place ≤ 12) ⌝ }
     ensures { λ r. ⌜ Found sizes (now (words .entry)) (triOf t) r × (r .place ≤ 12) ⌝ }
 {
@@ -262,7 +262,7 @@ fn corner_edge(bytes: &[u8], nv: usize, n: usize, j: usize) -> usize
 // Triangle i, named by edges.
 fn triangle_at(bytes: &[u8], nv: usize, n: usize, i: usize) -> Triangle
     requires { ⌜ LaidOut (now bytes) × (nv ≡ fileV (now bytes)) × (i < fileT (now bytes)) × Named n (fileVertices (now bytes)) nv ⌝ }
-    ensures { λ r. ⌜ (triOf r ≡ triangleOf (fileVertices (now (bytes .entry))) (fileTriangles (now (bytes .entry))) i) × Among n (triOf r) ⌝ }
+    ensures { λ r. ⌜ (triOf r ≡ triangleOf (fileVertices (now (bytes .entry))) (fileTriangles (now (bytes .entry))) i) × Below n (triOf r) ⌝ }
 {
     let at = 3 * i;
     let a = corner_edge(bytes, nv, n, at);

@@ -34,10 +34,10 @@ cast-result-3 : tie.Need-cast-result-3
 cast-result-3 c = rw (less c, toZ-ofZ (in64 c)) (in32 c)
 
 returns : tie.Need-returns
-returns c = toZ-pos w32 (c .if1 .taken) ∙ sym (signed-low (c .before .args .b) (c .if1 .taken))
+returns c = toZ-pos w32 (c .if1 .taken) ∙ sym (signed-low 2147483648 (c .before .args .b) (c .if1 .taken))
 
 returns-2 : tie.Need-returns-2
-returns-2 c = rw (less c, toZ-ofZ (in64 c), toZ-ofZ (in32 c)) (sym (signed-high (c .before .args .b) (c .if1 .left)))
+returns-2 c = rw (less c, toZ-ofZ (in64 c), toZ-ofZ (in32 c)) (sym (signed-high 2147483648 (c .before .args .b) (c .if1 .left)))
 
 pub signed-of-spec : {M : Type 1} → statement M
 signed-of-spec =

@@ -7,7 +7,7 @@ use mir.Syntax.{w16, w32}
 use mir.Val.{SFits, toZ}
 use mir.Facts.{toZ-pos, toZ-ofZ}
 use Rattle.paper.proofs.Ints.{sub-neg}
-use Rattle.lister.proofs.Signed.{signed-low, signed-high}
+use Rattle.codec.proofs.Signed.{signed-low, signed-high}
 use borrow.Author.Needs.{needs}
 use Rattle.lister.proofs.signed_of.Statement.{statement}
 use Rattle.lister.proofs.signed_of.Tie as tie
@@ -34,10 +34,10 @@ cast-result-3 : tie.Need-cast-result-3
 cast-result-3 c = rw (less c, toZ-ofZ (in32 c)) (in16 c)
 
 returns : tie.Need-returns
-returns c = toZ-pos w16 (c .if1 .taken) ∙ sym (signed-low (c .before .args .b) (c .if1 .taken))
+returns c = toZ-pos w16 (c .if1 .taken) ∙ sym (signed-low 32768 (c .before .args .b) (c .if1 .taken))
 
 returns-2 : tie.Need-returns-2
-returns-2 c = rw (less c, toZ-ofZ (in32 c), toZ-ofZ (in16 c)) (sym (signed-high (c .before .args .b) (c .if1 .left)))
+returns-2 c = rw (less c, toZ-ofZ (in32 c), toZ-ofZ (in16 c)) (sym (signed-high 32768 (c .before .args .b) (c .if1 .left)))
 
 pub signed-of-spec : {M : Type 1} → statement M
 signed-of-spec =

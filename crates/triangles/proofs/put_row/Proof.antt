@@ -12,7 +12,7 @@ use Rattle.paper.specs.Sheet.{corners3}
 use Rattle.tetra.specs.Cut.{rowCount, rowTriangles}
 use Rattle.triangles.specs.Named.{byNumber}
 use Rattle.tetra.proofs.Tables.{row-length}
-use Rattle.paper.proofs.Listing.{Below}
+use Rattle.paper.specs.Within.{Below}
 use Rattle.triangles.proofs.Laws.{writtenTo, written-none, written-more, written-length, words-one, firstOf, first-none, first-more, first-length, first-all, row-below}
 use Rattle.triangles.proofs.put_row.Statement.{statement}
 use Rattle.triangles.proofs.put_row.Tie as tie

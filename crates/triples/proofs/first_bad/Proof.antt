@@ -11,11 +11,12 @@ use borrow.Author.Count.{below-more}
 use borrow.Author.Tests.{not-true, not-false}
 use Rattle.lists.proofs.Firsts.{first-found, first-missing}
 use Rattle.paper.specs.Lattice.{cubes}
+use Rattle.paper.specs.Within.{Below}
 use Rattle.paper.specs.Build.{neededSlots}
 use Rattle.paper.specs.File.{fileT, fileVertices, fileTriangles}
 use Rattle.paper.specs.Check.{triangleOf}
 use Rattle.tetra.specs.Cut.{triOf}
-use Rattle.triples.specs.Triples.{Named, Among, Based, fresh, noted, Small, seenAfter, badIn, firstBadIn}
+use Rattle.triples.specs.Triples.{Named, Based, fresh, noted, Small, seenAfter, badIn, firstBadIn}
 use Rattle.triples.proofs.Laws.{is-fresh, noted-small, based-first, found-fresh, found-noted, after-none, after-more, after-length}
 use Rattle.triples.proofs.first_bad.Statement.{statement}
 use Rattle.triples.proofs.first_bad.Tie as tie
@@ -78,7 +79,7 @@ find-requires : tie.Need-find-requires Inv-loop μ-loop
 find-requires c κs =
     let s = c .before .before .before .before .before .before .before .before .before .before .before .before .before in
     let l = c .before .before .before .before .loop in
-    ((s .pre .0 .0, c .before .before .before .before .before .before .tet-corners .ensures, c .before .before .before .before .before .row-steps .ensures, subst (λ (n : ℕ). Among n (triOf (c .before .before .triangle-at .result))) (all (c .before .before .before .before)) (c .before .before .triangle-at .ensures .1), s .pre .1 .0), (s .pre .1 .3, l .inv .4, l .inv .5))
+    ((s .pre .0 .0, c .before .before .before .before .before .before .tet-corners .ensures, c .before .before .before .before .before .row-steps .ensures, subst (λ (n : ℕ). Below n (triOf (c .before .before .triangle-at .result))) (all (c .before .before .before .before)) (c .before .before .triangle-at .ensures .1), s .pre .1 .0), (s .pre .1 .3, l .inv .4, l .inv .5))
 
 note-requires : tie.Need-note-requires Inv-loop μ-loop
 note-requires c κs =
