@@ -4,7 +4,8 @@ use paper::Place;
 use paper::Sizes;
 ghost use mathlib.Core.Path.{_≡_};
 ghost use Prim.Native.Nat.{_*_, _/_, _≤_, _<_};
-ghost use lib.ListN.{length};
+ghost use lib.IntN.{pos};
+ghost use lib.ListN.{length, getD};
 ghost use Rattle.paper.specs.Lattice.{lattice, sampleAt};
 ghost use Rattle.paper.specs.Within.{Sized, Full, SampleIn};
 ghost use Rattle.paper.specs.Build.{neededSlots};
@@ -15,10 +16,12 @@ ghost use Rattle.layout.specs.Laid.{Ranged};
 ghost use Rattle.measure.specs.Crossed.{AllCross};
 ghost use Rattle.records.specs.Records.{edgeIn, goodEdge, firstBadIn, slotsAfter};
 
-fn same(a: i32, b: i32) -> bool
-    ensures { λ r. ⌜ r ≡ sameNumber a b ⌝ }
+// Whether number k of the vertex records is b.
+fn same_word(bytes: &[u8], k: usize, b: i32) -> bool
+    requires { ⌜ Ranged (now bytes) × (k < 4 * fileV (now bytes)) ⌝ }
+    ensures { λ r. ⌜ r ≡ sameNumber (getD (fileVertices (now (bytes .entry))) k (pos 0)) b ⌝ }
 {
-    a == b
+    layout::record_word(bytes, k) == b
 }
 
 // A record's edge, or n where it is none of n.
@@ -49,19 +52,19 @@ fn same_record(bytes: &[u8], i: usize, v: Vertex) -> bool
     ensures { λ r. ⌜ r ≡ sameNumbers (recordOf (fileVertices (now (bytes .entry))) i) (numbers v) ⌝ }
 {
     let at = 4 * i;
-    let e = same(layout::record_word(bytes, at), v.edge);
+    let e = same_word(bytes, at, v.edge);
     if !e {
         return false;
     }
-    let x = same(layout::record_word(bytes, at + 1), v.x);
+    let x = same_word(bytes, at + 1, v.x);
     if !x {
         return false;
     }
-    let y = same(layout::record_word(bytes, at + 2), v.y);
+    let y = same_word(bytes, at + 2, v.y);
     if !y {
         return false;
     }
-    same(layout::record_word(bytes, at + 3), v.z)
+    same_word(bytes, at + 3, v.z)
 }
 
 // The edge of record i, where its slot is used and the record is its vertex's; else 7 × samples.

@@ -31,10 +31,13 @@ same-length-5 c = search needs
 
 returns : tie.Need-returns
 returns c =
-    let a = c .before .before .before .before .before .before .before .before .before .before .before .before .before .before .before .before .before .before .before .before .args in
-    subst (λ (s : Start). Builds (lattice (a .sizes) (now (a .samples))) s (lent (now (a .vertices)) (now (a .triangles)) (now (a .words)) (now (a .waiting)) (now (a .slots))) (c .before .before .before .before .before .before .before .before .before .build .result) (lent (c .before .before .before .before .before .before .before .before .before .build .last .1 .1 .1 .0) (c .before .before .before .before .before .before .before .before .before .build .last .1 .1 .1 .1 .0) (c .before .before .before .before .before .before .before .before .before .build .last .1 .1 .1 .1 .1 .0) (c .before .before .before .before .before .before .before .before .before .build .last .1 .1 .1 .1 .1 .1 .0) (c .before .before .before .before .before .before .before .before .before .build .last .1 .1 .1 .1 .1 .1 .1 .0)))
-    (c .before .before .before .before .before .before .before .before .before .before .before .before .before .before .before .start-if .ensures)
-    (c .before .before .before .before .before .before .before .before .before .build .ensures)
+    let at-build = c .before .before .before .before .before .before .before .before .before in
+    let at-start-if = at-build .before .before .before .before .before .before in
+    let s = at-start-if .before .before .before .before .before in
+    let a = s .args in
+    subst (λ (s : Start). Builds (lattice (a .sizes) (now (a .samples))) s (lent (now (a .vertices)) (now (a .triangles)) (now (a .words)) (now (a .waiting)) (now (a .slots))) (at-build .build .result) (lent (at-build .build .last .1 .1 .1 .0) (at-build .build .last .1 .1 .1 .1 .0) (at-build .build .last .1 .1 .1 .1 .1 .0) (at-build .build .last .1 .1 .1 .1 .1 .1 .0) (at-build .build .last .1 .1 .1 .1 .1 .1 .1 .0)))
+    (at-start-if .start-if .ensures)
+    (at-build .build .ensures)
 
 pub malxuqeed-build-spec : {M : Type 1} → statement M
 malxuqeed-build-spec =

@@ -25,10 +25,13 @@ same-length-3 c = search needs
 
 returns : tie.Need-returns
 returns c =
-    let a = c .before .before .before .before .before .before .before .before .before .before .before .before .before .before .before .args in
-    subst (λ (s : Start). Checks (lattice (a .sizes) (now (a .samples))) s (now (a .bytes)) (work (now (a .words)) (now (a .waiting)) (now (a .slots))) (c .before .before .before .before .before .before .check .result) (work (c .before .before .before .before .before .before .check .last .1 .1 .1 .1 .0) (c .before .before .before .before .before .before .check .last .1 .1 .1 .1 .1 .0) (c .before .before .before .before .before .before .check .last .1 .1 .1 .1 .1 .1 .0)))
-    (c .before .before .before .before .before .before .before .before .before .before .start-if .ensures)
-    (c .before .before .before .before .before .before .check .ensures)
+    let at-check = c .before .before .before .before .before .before in
+    let at-start-if = at-check .before .before .before .before in
+    let s = at-start-if .before .before .before .before .before in
+    let a = s .args in
+    subst (λ (s : Start). Checks (lattice (a .sizes) (now (a .samples))) s (now (a .bytes)) (work (now (a .words)) (now (a .waiting)) (now (a .slots))) (at-check .check .result) (work (at-check .check .last .1 .1 .1 .1 .0) (at-check .check .last .1 .1 .1 .1 .1 .0) (at-check .check .last .1 .1 .1 .1 .1 .1 .0)))
+    (at-start-if .start-if .ensures)
+    (at-check .check .ensures)
 
 pub malxuqeed-check-spec : {M : Type 1} → statement M
 malxuqeed-check-spec =

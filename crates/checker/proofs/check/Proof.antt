@@ -39,7 +39,9 @@ told : (c : tie.Else2) → judge (fileTests (bs (c .before .before .before .befo
 told c = sym (ap (λ (v : Verdict). v .number) (c .before .before .tested .ensures)) ∙ c .if2 .left
 
 same : (c : tie.After-same-sizes) → c .same-sizes .result ≡ sameSizes (fileSizes (bs (c .before .before .before .before .before .before .before .before .before .before .before .before))) (c .before .before .before .before .before .before .before .before .before .before .before .before .args .sizes)
-same c = c .same-sizes .ensures ∙ ap (λ z. sameSizes z (c .before .before .before .before .before .before .before .before .before .before .before .before .args .sizes)) (c .before .sizes-of .ensures)
+same c =
+    let s = c .before .before .before .before .before .before .before .before .before .before .before .before in
+    c .same-sizes .ensures ∙ ap (λ z. sameSizes z (s .args .sizes)) (c .before .sizes-of .ensures)
 
 -- what they leave known
 begins : (c : tie.Else1) → let s = c .before .before .before .before .before .before .before in Begins (L s) (s .args .start) (length (now (s .args .words))) (length (now (s .args .waiting))) (length (now (s .args .slots))) (c .before .before .begin .result .cube)
@@ -72,24 +74,29 @@ returns-2 c =
     }
 
 sizes-of-requires : tie.Need-sizes-of-requires
-sizes-of-requires c κs = omega (arith, laid-out (bs (c .before .before .before .before .before .before .before .before .before .before)) (told (c)) .ranged .long)
+sizes-of-requires c κs =
+    let s = c .before .before .before .before .before .before .before .before .before .before in
+    omega (arith, laid-out (bs s) (told c) .ranged .long)
 
 same-sizes-requires : tie.Need-same-sizes-requires
 same-sizes-requires c κs = search needs
 
 returns-3 : tie.Need-returns-3
 returns-3 c =
-    let s = c .before .before .before .before .before .before .before .before .before .before .before .before .before in
+    let past = c .before .before .before .before .before .before in
+    let s = past .before .before .before .before .before .before .before in
     record {
-      answer = sym (checked-sizes (L s) (s .args .start) (bs s) _ _ _ (begun (c .before .before .before .before .before .before)) (told (c .before .before .before)) (sym (same (c .before)) ∙ not-true _ (c .if3 .taken)));
+      answer = sym (checked-sizes (L s) (s .args .start) (bs s) _ _ _ (begun past) (told (c .before .before .before)) (sym (same (c .before)) ∙ not-true _ (c .if3 .taken)));
       left = all-kept (s .args .sizes) 16 (w s) refl;
     }
 
 last-tests-requires : tie.Need-last-tests-requires
 last-tests-requires c κs =
-    let s = c .before .before .before .before .before .before .before .before .before .before .before .before .before .before .before .before in
-    let b = begins (c .before .before .before .before .before .before .before .before .before) in
-    (b .full, b .below, laid-out (bs s) (told (c .before .before .before .before .before .before)), record { words = b .words-fit; waiting = b .waiting-fit; slots = b .slots-fit })
+    let past = c .before .before .before .before .before .before in
+    let past₂ = past .before .before .before in
+    let s = past₂ .before .before .before .before .before .before .before in
+    let b = begins past₂ in
+    (b .full, b .below, laid-out (bs s) (told past), record { words = b .words-fit; waiting = b .waiting-fit; slots = b .slots-fit })
 
 same-length : tie.Need-same-length
 same-length c = search needs
@@ -102,12 +109,17 @@ same-length-3 c = search needs
 
 returns-4 : tie.Need-returns-4
 returns-4 c =
-    let s = c .before .before .before .before .before .before .before .before .before .before .before .before .before .before .before .before .before .before .before .before .before .before .before in
-    let b = begins (c .before .before .before .before .before .before .before .before .before .before .before .before .before .before .before .before) in
-    let e = c .before .before .before .before .before .before .last-tests .ensures .0 ∙ ap (λ (k : ℕ). judge (lastTests (L s) k (bs s))) (b .is) in
+    let at-last-tests = c .before .before .before .before .before .before in
+    let at-if3 = at-last-tests .before .before .before .before in
+    let past = at-if3 .before in
+    let past₂ = past .before .before in
+    let past₃ = past₂ .before .before .before in
+    let s = past₃ .before .before .before .before .before .before .before in
+    let b = begins past₃ in
+    let e = at-last-tests .last-tests .ensures .0 ∙ ap (λ (k : ℕ). judge (lastTests (L s) k (bs s))) (b .is) in
     record {
-      answer = e ∙ sym (checked-last (L s) (s .args .start) (bs s) _ _ _ (begun (c .before .before .before .before .before .before .before .before .before .before .before .before .before .before .before .before)) (told (c .before .before .before .before .before .before .before .before .before .before .before .before .before)) (sym (same (c .before .before .before .before .before .before .before .before .before .before .before)) ∙ not-false _ (c .before .before .before .before .before .before .before .before .before .before .if3 .left)));
-      left = c .before .before .before .before .before .before .last-tests .ensures .1 ∙ all-cleared (s .args .sizes) _ (w s) (ap (λ (v : Verdict). clears (v .number)) e ∙ last-clears (L s) (startOf (L s) (s .args .start)) (bs s));
+      answer = e ∙ sym (checked-last (L s) (s .args .start) (bs s) _ _ _ (begun past₃) (told past₂) (sym (same past) ∙ not-false _ (at-if3 .if3 .left)));
+      left = at-last-tests .last-tests .ensures .1 ∙ all-cleared (s .args .sizes) _ (w s) (ap (λ (v : Verdict). clears (v .number)) e ∙ last-clears (L s) (startOf (L s) (s .args .start)) (bs s));
     }
 
 pub check-spec : {M : Type 1} → statement M

@@ -1,12 +1,16 @@
 -- Test by test. Assumes nothing.
-use mathlib.Core.Path.{sym, _∙_}
+use mathlib.Core.Path.{_≡_, sym, _∙_}
 use mathlib.Core.List.{List}
 use Prim.Native.Nat.{ℕ}
 use denote.Ref.{now}
 use Rattle.paper.specs.Lattice.{Lattice, lattice}
+use Rattle.paper.specs.Build.{needed, neededSlots}
 use Rattle.paper.specs.File.{fileV, fileT, fileVertices, fileTriangles}
 use Rattle.paper.specs.Check.{Work, work}
+use Rattle.flood.specs.Flooded.{Beyond}
 use Rattle.flood.proofs.Laws.{beyond-refl}
+use Rattle.records.specs.Records.{firstBadIn as firstBadRecord}
+use Rattle.triples.specs.Triples.{firstBadIn as firstBadTriple}
 use Rattle.checker.proofs.Answers.{answer-17, answer-18, answer-19-vertices, answer-19-triangles, answer-0, slots-beyond, seen-beyond, all-named}
 use borrow.Author.Needs.{needs}
 use Rattle.checker.proofs.compare.Statement.{statement}
@@ -22,6 +26,47 @@ bs s = now (s .args .bytes)
 abbrev w : tie.Start → Work
 w s = work (now (s .args .words)) (now (s .args .waiting)) (now (s .args .slots))
 
+-- ── the records are compared ──
+
+abbrev start : tie.After-first-bad → tie.Start
+start c = c .before .before .before .before .before .before .before .before
+
+slots-left : (c : tie.After-first-bad) → Beyond (neededSlots (start c .args .sizes)) (now (start c .args .slots)) (c .first-bad .last .1 .1 .1 .0)
+slots-left c =
+    let s = start c in
+    slots-beyond (L s) (fileVertices (bs s)) (fileV (bs s)) (now (s .args .slots)) _ (c .first-bad .result) (c .first-bad .ensures .0) (c .first-bad .ensures .1)
+
+-- all of them are the sheet's
+abbrev compared : tie.Else1 → tie.After-first-bad
+compared c = c .before .before .before
+
+module _ (c : tie.Else1) where
+  abbrev s : tie.Start
+  s = start (compared c)
+
+  no-record : firstBadRecord (L s) (fileVertices (bs s)) (now (s .args .slots)) (fileV (bs s)) ≡ fileV (bs s)
+  no-record = sym (compared c .first-bad .ensures .0) ∙ (c .if1 .left ∙ compared c .before .before .before .vertex-count .ensures .0)
+
+-- ── and so are the triangles ──
+
+abbrev passed : tie.After-first-bad2 → tie.Else1
+passed c = c .before .before
+
+waiting-left : (c : tie.After-first-bad2) → let s = start (compared (passed c)) in Beyond (needed (s .args .sizes)) (now (s .args .waiting)) (c .first-bad2 .last .1 .1 .1 .0)
+waiting-left c =
+    let s = start (compared (passed c)) in
+    seen-beyond (s .args .sizes) (now (s .args .words)) (fileVertices (bs s)) (fileTriangles (bs s)) (fileT (bs s)) (now (s .args .waiting)) _
+    (c .first-bad2 .result) (c .first-bad2 .ensures .0) (c .first-bad2 .ensures .1)
+
+abbrev met : tie.Else2 → tie.After-first-bad2
+met c = c .before .before .before
+
+no-triple : (c : tie.Else2) → let s = start (compared (passed (met c))) in
+    firstBadTriple (s .args .sizes) (now (s .args .words)) (fileVertices (bs s)) (fileTriangles (bs s)) (now (s .args .waiting)) (fileT (bs s)) ≡ fileT (bs s)
+no-triple c = sym (met c .first-bad2 .ensures .0) ∙ (c .if2 .left ∙ compared (passed (met c)) .before .before .triangle-count .ensures .0)
+
+-- ── answer by answer ──
+
 vertex-count-requires : tie.Need-vertex-count-requires
 vertex-count-requires c κs = search needs
 
@@ -35,14 +80,25 @@ same-length : tie.Need-same-length
 same-length c = search needs
 
 returns : tie.Need-returns
-returns c = record {
-  answer = answer-17 (L (c .before .before .before .before .before .before .before .before .before .before .before)) (bs (c .before .before .before .before .before .before .before .before .before .before .before)) (c .before .before .before .before .before .before .before .before .before .before .before .args .counts) (w (c .before .before .before .before .before .before .before .before .before .before .before)) (c .before .before .before .first-bad .result) (c .before .before .before .first-bad .ensures .0) (λ q. c .if1 .taken (q ∙ sym (c .before .before .before .before .before .before .vertex-count .ensures .0)));
-  waiting = beyond-refl _ _;
-  slots = slots-beyond (L (c .before .before .before .before .before .before .before .before .before .before .before)) (fileVertices (bs (c .before .before .before .before .before .before .before .before .before .before .before))) (fileV (bs (c .before .before .before .before .before .before .before .before .before .before .before))) (now (c .before .before .before .before .before .before .before .before .before .before .before .args .slots)) _ (c .before .before .before .first-bad .result) (c .before .before .before .first-bad .ensures .0) (c .before .before .before .first-bad .ensures .1);
-}
+returns c =
+    let a = c .before .before .before in
+    let s = start a in
+    record {
+      answer = answer-17 (L s) (bs s) (s .args .counts) (w s) (a .first-bad .result) (a .first-bad .ensures .0)
+          (λ q. c .if1 .taken (q ∙ sym (a .before .before .before .vertex-count .ensures .0)));
+      waiting = beyond-refl _ _;
+      slots = slots-left a;
+    }
 
 first-bad-requires-2 : tie.Need-first-bad-requires-2
-first-bad-requires-2 c κs = ((c .before .before .before .before .before .before .before .before .before .before .before .before .pre .0 .full .sized, c .before .before .before .before .before .before .before .before .before .before .before .before .pre .0 .laid, all-named (L (c .before .before .before .before .before .before .before .before .before .before .before .before)) (fileVertices (bs (c .before .before .before .before .before .before .before .before .before .before .before .before))) (now (c .before .before .before .before .before .before .before .before .before .before .before .before .args .slots)) (fileV (bs (c .before .before .before .before .before .before .before .before .before .before .before .before))) (sym (c .before .before .before .before .first-bad .ensures .0) ∙ (c .before .if1 .left ∙ c .before .before .before .before .before .before .before .vertex-count .ensures .0))), (c .before .before .before .before .before .before .before .before .before .before .before .before .pre .1 .words, c .before .before .before .before .before .before .before .before .before .before .before .before .pre .1 .waiting, c .before .before .before .before .before .before .before .before .before .before .before .before .pre .0 .small, c .before .before .before .before .before .before .before .before .before .before .before .before .pre .0 .sure))
+first-bad-requires-2 c κs =
+    let e = c .before in
+    let s = start (compared e) in
+    let p = s .pre .0 in
+    let r = s .pre .1 in (
+      (p .full .sized, p .laid, all-named (L s) (fileVertices (bs s)) (now (s .args .slots)) (fileV (bs s)) (no-record e)),
+      (r .words, r .waiting, p .small, p .sure),
+    )
 
 same-length-2 : tie.Need-same-length-2
 same-length-2 c = search needs
@@ -51,11 +107,16 @@ same-length-3 : tie.Need-same-length-3
 same-length-3 c = search needs
 
 returns-2 : tie.Need-returns-2
-returns-2 c = record {
-  answer = answer-18 (L (c .before .before .before .before .before .before .before .before .before .before .before .before .before .before .before .before)) (bs (c .before .before .before .before .before .before .before .before .before .before .before .before .before .before .before .before)) (c .before .before .before .before .before .before .before .before .before .before .before .before .before .before .before .before .args .counts) (w (c .before .before .before .before .before .before .before .before .before .before .before .before .before .before .before .before)) (sym (c .before .before .before .before .before .before .before .before .first-bad .ensures .0) ∙ (c .before .before .before .before .before .if1 .left ∙ c .before .before .before .before .before .before .before .before .before .before .before .vertex-count .ensures .0)) (c .before .before .before .first-bad2 .result) (c .before .before .before .first-bad2 .ensures .0) (λ q. c .if2 .taken (q ∙ sym (c .before .before .before .before .before .before .before .before .before .before .triangle-count .ensures .0)));
-  waiting = seen-beyond (c .before .before .before .before .before .before .before .before .before .before .before .before .before .before .before .before .args .sizes) (now (c .before .before .before .before .before .before .before .before .before .before .before .before .before .before .before .before .args .words)) (fileVertices (bs (c .before .before .before .before .before .before .before .before .before .before .before .before .before .before .before .before))) (fileTriangles (bs (c .before .before .before .before .before .before .before .before .before .before .before .before .before .before .before .before))) (fileT (bs (c .before .before .before .before .before .before .before .before .before .before .before .before .before .before .before .before))) (now (c .before .before .before .before .before .before .before .before .before .before .before .before .before .before .before .before .args .waiting)) _ (c .before .before .before .first-bad2 .result) (c .before .before .before .first-bad2 .ensures .0) (c .before .before .before .first-bad2 .ensures .1);
-  slots = slots-beyond (L (c .before .before .before .before .before .before .before .before .before .before .before .before .before .before .before .before)) (fileVertices (bs (c .before .before .before .before .before .before .before .before .before .before .before .before .before .before .before .before))) (fileV (bs (c .before .before .before .before .before .before .before .before .before .before .before .before .before .before .before .before))) (now (c .before .before .before .before .before .before .before .before .before .before .before .before .before .before .before .before .args .slots)) _ (c .before .before .before .before .before .before .before .before .first-bad .result) (c .before .before .before .before .before .before .before .before .first-bad .ensures .0) (c .before .before .before .before .before .before .before .before .first-bad .ensures .1);
-}
+returns-2 c =
+    let b = c .before .before .before in
+    let a = compared (passed b) in
+    let s = start a in
+    record {
+      answer = answer-18 (L s) (bs s) (s .args .counts) (w s) (no-record (passed b)) (b .first-bad2 .result) (b .first-bad2 .ensures .0)
+          (λ q. c .if2 .taken (q ∙ sym (a .before .before .triangle-count .ensures .0)));
+      waiting = waiting-left b;
+      slots = slots-left a;
+    }
 
 same-length-4 : tie.Need-same-length-4
 same-length-4 c = search needs
@@ -64,11 +125,16 @@ same-length-5 : tie.Need-same-length-5
 same-length-5 c = search needs
 
 returns-3 : tie.Need-returns-3
-returns-3 c = record {
-  answer = answer-19-vertices (L (c .before .before .before .before .before .before .before .before .before .before .before .before .before .before .before .before .before .before)) (bs (c .before .before .before .before .before .before .before .before .before .before .before .before .before .before .before .before .before .before)) (c .before .before .before .before .before .before .before .before .before .before .before .before .before .before .before .before .before .before .args .counts) (w (c .before .before .before .before .before .before .before .before .before .before .before .before .before .before .before .before .before .before)) (sym (c .before .before .before .before .before .before .before .before .before .before .first-bad .ensures .0) ∙ (c .before .before .before .before .before .before .before .if1 .left ∙ c .before .before .before .before .before .before .before .before .before .before .before .before .before .vertex-count .ensures .0)) (sym (c .before .before .before .before .before .first-bad2 .ensures .0) ∙ (c .before .before .if2 .left ∙ c .before .before .before .before .before .before .before .before .before .before .before .before .triangle-count .ensures .0)) (λ q. c .if3 .taken (c .before .before .before .before .before .before .before .before .before .before .before .before .before .vertex-count .ensures .0 ∙ q));
-  waiting = seen-beyond (c .before .before .before .before .before .before .before .before .before .before .before .before .before .before .before .before .before .before .args .sizes) (now (c .before .before .before .before .before .before .before .before .before .before .before .before .before .before .before .before .before .before .args .words)) (fileVertices (bs (c .before .before .before .before .before .before .before .before .before .before .before .before .before .before .before .before .before .before))) (fileTriangles (bs (c .before .before .before .before .before .before .before .before .before .before .before .before .before .before .before .before .before .before))) (fileT (bs (c .before .before .before .before .before .before .before .before .before .before .before .before .before .before .before .before .before .before))) (now (c .before .before .before .before .before .before .before .before .before .before .before .before .before .before .before .before .before .before .args .waiting)) _ (c .before .before .before .before .before .first-bad2 .result) (c .before .before .before .before .before .first-bad2 .ensures .0) (c .before .before .before .before .before .first-bad2 .ensures .1);
-  slots = slots-beyond (L (c .before .before .before .before .before .before .before .before .before .before .before .before .before .before .before .before .before .before)) (fileVertices (bs (c .before .before .before .before .before .before .before .before .before .before .before .before .before .before .before .before .before .before))) (fileV (bs (c .before .before .before .before .before .before .before .before .before .before .before .before .before .before .before .before .before .before))) (now (c .before .before .before .before .before .before .before .before .before .before .before .before .before .before .before .before .before .before .args .slots)) _ (c .before .before .before .before .before .before .before .before .before .before .first-bad .result) (c .before .before .before .before .before .before .before .before .before .before .first-bad .ensures .0) (c .before .before .before .before .before .before .before .before .before .before .first-bad .ensures .1);
-}
+returns-3 c =
+    let e = c .before .before in
+    let a = compared (passed (met e)) in
+    let s = start a in
+    record {
+      answer = answer-19-vertices (L s) (bs s) (s .args .counts) (w s) (no-record (passed (met e))) (no-triple e)
+          (λ q. c .if3 .taken (a .before .before .before .vertex-count .ensures .0 ∙ q));
+      waiting = waiting-left (met e);
+      slots = slots-left a;
+    }
 
 same-length-6 : tie.Need-same-length-6
 same-length-6 c = search needs
@@ -77,11 +143,16 @@ same-length-7 : tie.Need-same-length-7
 same-length-7 c = search needs
 
 returns-4 : tie.Need-returns-4
-returns-4 c = record {
-  answer = answer-19-triangles (L (c .before .before .before .before .before .before .before .before .before .before .before .before .before .before .before .before .before .before .before .before)) (bs (c .before .before .before .before .before .before .before .before .before .before .before .before .before .before .before .before .before .before .before .before)) (c .before .before .before .before .before .before .before .before .before .before .before .before .before .before .before .before .before .before .before .before .args .counts) (w (c .before .before .before .before .before .before .before .before .before .before .before .before .before .before .before .before .before .before .before .before)) (sym (c .before .before .before .before .before .before .before .before .before .before .before .before .first-bad .ensures .0) ∙ (c .before .before .before .before .before .before .before .before .before .if1 .left ∙ c .before .before .before .before .before .before .before .before .before .before .before .before .before .before .before .vertex-count .ensures .0)) (sym (c .before .before .before .before .before .before .before .first-bad2 .ensures .0) ∙ (c .before .before .before .before .if2 .left ∙ c .before .before .before .before .before .before .before .before .before .before .before .before .before .before .triangle-count .ensures .0)) (λ q. c .if4 .taken (c .before .before .before .before .before .before .before .before .before .before .before .before .before .before .triangle-count .ensures .0 ∙ q));
-  waiting = seen-beyond (c .before .before .before .before .before .before .before .before .before .before .before .before .before .before .before .before .before .before .before .before .args .sizes) (now (c .before .before .before .before .before .before .before .before .before .before .before .before .before .before .before .before .before .before .before .before .args .words)) (fileVertices (bs (c .before .before .before .before .before .before .before .before .before .before .before .before .before .before .before .before .before .before .before .before))) (fileTriangles (bs (c .before .before .before .before .before .before .before .before .before .before .before .before .before .before .before .before .before .before .before .before))) (fileT (bs (c .before .before .before .before .before .before .before .before .before .before .before .before .before .before .before .before .before .before .before .before))) (now (c .before .before .before .before .before .before .before .before .before .before .before .before .before .before .before .before .before .before .before .before .args .waiting)) _ (c .before .before .before .before .before .before .before .first-bad2 .result) (c .before .before .before .before .before .before .before .first-bad2 .ensures .0) (c .before .before .before .before .before .before .before .first-bad2 .ensures .1);
-  slots = slots-beyond (L (c .before .before .before .before .before .before .before .before .before .before .before .before .before .before .before .before .before .before .before .before)) (fileVertices (bs (c .before .before .before .before .before .before .before .before .before .before .before .before .before .before .before .before .before .before .before .before))) (fileV (bs (c .before .before .before .before .before .before .before .before .before .before .before .before .before .before .before .before .before .before .before .before))) (now (c .before .before .before .before .before .before .before .before .before .before .before .before .before .before .before .before .before .before .before .before .args .slots)) _ (c .before .before .before .before .before .before .before .before .before .before .before .before .first-bad .result) (c .before .before .before .before .before .before .before .before .before .before .before .before .first-bad .ensures .0) (c .before .before .before .before .before .before .before .before .before .before .before .before .first-bad .ensures .1);
-}
+returns-4 c =
+    let e = c .before .before .before .before in
+    let a = compared (passed (met e)) in
+    let s = start a in
+    record {
+      answer = answer-19-triangles (L s) (bs s) (s .args .counts) (w s) (no-record (passed (met e))) (no-triple e)
+          (λ q. c .if4 .taken (a .before .before .triangle-count .ensures .0 ∙ q));
+      waiting = waiting-left (met e);
+      slots = slots-left a;
+    }
 
 same-length-8 : tie.Need-same-length-8
 same-length-8 c = search needs
@@ -90,11 +161,16 @@ same-length-9 : tie.Need-same-length-9
 same-length-9 c = search needs
 
 returns-5 : tie.Need-returns-5
-returns-5 c = record {
-  answer = answer-0 (L (c .before .before .before .before .before .before .before .before .before .before .before .before .before .before .before .before .before .before .before .before)) (bs (c .before .before .before .before .before .before .before .before .before .before .before .before .before .before .before .before .before .before .before .before)) (c .before .before .before .before .before .before .before .before .before .before .before .before .before .before .before .before .before .before .before .before .args .counts) (w (c .before .before .before .before .before .before .before .before .before .before .before .before .before .before .before .before .before .before .before .before)) (sym (c .before .before .before .before .before .before .before .before .before .before .before .before .first-bad .ensures .0) ∙ (c .before .before .before .before .before .before .before .before .before .if1 .left ∙ c .before .before .before .before .before .before .before .before .before .before .before .before .before .before .before .vertex-count .ensures .0)) (sym (c .before .before .before .before .before .before .before .first-bad2 .ensures .0) ∙ (c .before .before .before .before .if2 .left ∙ c .before .before .before .before .before .before .before .before .before .before .before .before .before .before .triangle-count .ensures .0)) (sym (c .before .before .before .before .before .before .before .before .before .before .before .before .before .before .before .vertex-count .ensures .0) ∙ c .before .before .if3 .left) (sym (c .before .before .before .before .before .before .before .before .before .before .before .before .before .before .triangle-count .ensures .0) ∙ c .if4 .left);
-  waiting = seen-beyond (c .before .before .before .before .before .before .before .before .before .before .before .before .before .before .before .before .before .before .before .before .args .sizes) (now (c .before .before .before .before .before .before .before .before .before .before .before .before .before .before .before .before .before .before .before .before .args .words)) (fileVertices (bs (c .before .before .before .before .before .before .before .before .before .before .before .before .before .before .before .before .before .before .before .before))) (fileTriangles (bs (c .before .before .before .before .before .before .before .before .before .before .before .before .before .before .before .before .before .before .before .before))) (fileT (bs (c .before .before .before .before .before .before .before .before .before .before .before .before .before .before .before .before .before .before .before .before))) (now (c .before .before .before .before .before .before .before .before .before .before .before .before .before .before .before .before .before .before .before .before .args .waiting)) _ (c .before .before .before .before .before .before .before .first-bad2 .result) (c .before .before .before .before .before .before .before .first-bad2 .ensures .0) (c .before .before .before .before .before .before .before .first-bad2 .ensures .1);
-  slots = slots-beyond (L (c .before .before .before .before .before .before .before .before .before .before .before .before .before .before .before .before .before .before .before .before)) (fileVertices (bs (c .before .before .before .before .before .before .before .before .before .before .before .before .before .before .before .before .before .before .before .before))) (fileV (bs (c .before .before .before .before .before .before .before .before .before .before .before .before .before .before .before .before .before .before .before .before))) (now (c .before .before .before .before .before .before .before .before .before .before .before .before .before .before .before .before .before .before .before .before .args .slots)) _ (c .before .before .before .before .before .before .before .before .before .before .before .before .first-bad .result) (c .before .before .before .before .before .before .before .before .before .before .before .before .first-bad .ensures .0) (c .before .before .before .before .before .before .before .before .before .before .before .before .first-bad .ensures .1);
-}
+returns-5 c =
+    let e = c .before .before .before .before in
+    let a = compared (passed (met e)) in
+    let s = start a in
+    record {
+      answer = answer-0 (L s) (bs s) (s .args .counts) (w s) (no-record (passed (met e))) (no-triple e)
+          (sym (a .before .before .before .vertex-count .ensures .0) ∙ c .before .before .if3 .left) (sym (a .before .before .triangle-count .ensures .0) ∙ c .if4 .left);
+      waiting = waiting-left (met e);
+      slots = slots-left a;
+    }
 
 pub compare-spec : {M : Type 1} → statement M
 compare-spec =

@@ -58,15 +58,18 @@ clear-list-requires c κs = search needs
 compare-requires : tie.Need-compare-requires
 compare-requires c κs =
     let a = c .before .before .before .before .before in
-    let s = c .before .before .before .before .before .before .before .before .before .before .before .before .before .before .before .before .before .before .before .before .before .before in
-    let m = c .before .before .before .before .before .before .before .before .before .before .before .before .before .before .measure in
+    let at-measure = a .before .before .before .before .before .before .before .before .before in
+    let s = at-measure .before .before .before .before .before .before .before .before in
+    let m = at-measure .measure in
     (comparable (L s) (s .pre .0 .sized) (s .args .start) (s .pre .1) (w s) (words a) (waiting a) (slots a) (m .result) (m .ensures) _ (blank a) (s .pre .0) _ (s .pre .2), room a)
 
 clear-work-requires : tie.Need-clear-work-requires
 clear-work-requires c κs =
-    let s = c .before .before .before .before .before .before .before .before .before .before .before .before .before .before .before .before .before .before .before .before .before .before .before .before .before .before .before .before .before .before in
-    let r = room (c .before .before .before .before .before .before .before .before .before .before .before .before .before) in
-    let q = c .before .before .before .before .before .before .before .compare .ensures in
+    let at-compare = c .before .before .before .before .before .before .before in
+    let past = at-compare .before .before .before .before .before .before in
+    let s = past .before .before .before .before .before .before .before .before .before .before .before .before .before .before .before .before .before in
+    let r = room past in
+    let q = at-compare .compare .ensures in
     (s .pre .0 .sized, r .words, omega (arith, r .waiting, q .waiting .same-length), omega (arith, r .slots, q .slots .same-length))
 
 same-length : tie.Need-same-length
@@ -80,11 +83,14 @@ same-length-3 c = search needs
 
 returns : tie.Need-returns
 returns c =
-    let a = c .before .before .before .before .before .before .before .before .before .before .before .before .before .before .before .before .before .before .before .before in
-    let s = c .before .before .before .before .before .before .before .before .before .before .before .before .before .before .before .before .before .before .before .before .before .before .before .before .before .before .before .before .before .before .before .before .before .before .before .before .before in
-    let m = c .before .before .before .before .before .before .before .before .before .before .before .before .before .before .before .before .before .before .before .before .before .before .before .before .before .before .before .before .before .measure in
-    let q = c .before .before .before .before .before .before .before .before .before .before .before .before .before .before .compare .ensures in
-    let k = c .before .before .before .before .before .before .clear-work .ensures in (
+    let at-clear-work = c .before .before .before .before .before .before in
+    let at-compare = at-clear-work .before .before .before .before .before .before .before .before in
+    let a = at-compare .before .before .before .before .before .before in
+    let at-measure = a .before .before .before .before .before .before .before .before .before in
+    let s = at-measure .before .before .before .before .before .before .before .before in
+    let m = at-measure .measure in
+    let q = at-compare .compare .ensures in
+    let k = at-clear-work .clear-work .ensures in (
       q .answer ∙ same-answer (L s) (s .pre .0 .sized) (s .args .start) (s .pre .1) (w s) (words a) (waiting a) (slots a) (m .result) (m .ensures) _ (blank a) (room a) (now (s .args .bytes)),
       (λ i. work (k .0 i) (k .1 i) (k .2 i)) ∙ cleaned (L s) (s .pre .0 .sized) (s .args .start) (s .pre .1) (w s) (words a) (waiting a) (slots a) (m .result) (m .ensures) _ (blank a) _ _ (q .waiting) (q .slots),
     )

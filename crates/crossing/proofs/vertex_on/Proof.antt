@@ -55,56 +55,66 @@ corner-of-requires-2 : tie.Need-corner-of-requires-2
 corner-of-requires-2 c κs = search needs
 
 value-requires : tie.Need-value-requires
-value-requires c κs = (c .before .before .before .before .before .pre .0, subst (SampleIn (c .before .before .before .before .before .args .sizes)) (sym (u-is (c))) (c .before .before .before .before .before .pre .2 .first))
+value-requires c κs = (c .before .before .before .before .before .pre .0, subst (SampleIn (c .before .before .before .before .before .args .sizes)) (sym (u-is c)) (c .before .before .before .before .before .pre .2 .first))
 
 is-air-requires : tie.Need-is-air-requires
 is-air-requires c κs = search needs
 
 record-of-requires : tie.Need-record-of-requires
 record-of-requires c κs =
-    let s = c .before .before .before .before .before .before .before .before in
+    let at-second-end = c .before .before .before .before in
+    let at-first-end = at-second-end .before .before in
+    let at-sample-no = at-first-end .before in
+    let s = at-sample-no .before in
     let x = s .pre .2 in
     let u = u-is (c .before .before .before) in
     let v = v-is (c .before .before .before) in
     let e = sym (side-is (c .before)) ∙ c .if1 .taken in
     rw (u, v) ((
-      (s .pre .0, x .second, x .first, near _ (s .pre .0 .sized) (s .args .p) _ _ (omega (arith, c .before .before .before .before .second-end .ensures)) (omega (arith, c .before .before .before .before .before .before .first-end .ensures)) (x .second), omega (arith, c .before .before .before .before .before .before .before .sample-no .ensures, samples-few _ (s .pre .0 .sized), x .kind)),
+      (s .pre .0, x .second, x .first, near _ (s .pre .0 .sized) (s .args .p) _ _ (omega (arith, at-second-end .second-end .ensures)) (omega (arith, at-first-end .first-end .ensures)) (x .second), omega (arith, at-sample-no .sample-no .ensures, samples-few _ (s .pre .0 .sized), x .kind)),
       (first-air (L s) (s .args .p) (s .args .kind) (s .pre .1) x e, e),
     ))
 
 returns : tie.Need-returns
 returns c =
-    let s = c .before .before .before .before .before .before .before .before .before in
+    let past = c .before .before .before .before in
+    let at-sample-no = past .before .before .before .before in
+    let s = at-sample-no .before in
     let z = s .args .sizes in
     let x = s .pre .2 in
-    let u = u-is (c .before .before .before .before) in
-    let v = v-is (c .before .before .before .before) in
+    let u = u-is past in
+    let v = v-is past in
     let e = sym (side-is (c .before .before)) ∙ c .before .if1 .taken in
-    let n = c .before .before .before .before .before .before .before .before .sample-no .ensures .0 in
+    let n = at-sample-no .sample-no .ensures .0 in
     c .record-of .ensures
     ∙ ((λ i. recordAt (L s) (7 * n i + s .args .kind) (v i) (u i))
     ∙ sym (record-air (L s) (s .args .p) (s .args .kind) (s .pre .1) x e))
 
 record-of-requires-2 : tie.Need-record-of-requires-2
 record-of-requires-2 c κs =
-    let s = c .before .before .before .before .before .before .before .before in
+    let at-second-end = c .before .before .before .before in
+    let at-first-end = at-second-end .before .before in
+    let at-sample-no = at-first-end .before in
+    let s = at-sample-no .before in
     let x = s .pre .2 in
     let u = u-is (c .before .before .before) in
     let v = v-is (c .before .before .before) in
     let e = sym (side-is (c .before)) ∙ c .if1 .left in
     rw (u, v) ((
-      (s .pre .0, x .first, x .second, near _ (s .pre .0 .sized) (s .args .p) _ _ (omega (arith, c .before .before .before .before .before .before .first-end .ensures)) (omega (arith, c .before .before .before .before .second-end .ensures)) (x .first), omega (arith, c .before .before .before .before .before .before .before .sample-no .ensures, samples-few _ (s .pre .0 .sized), x .kind)),
+      (s .pre .0, x .first, x .second, near _ (s .pre .0 .sized) (s .args .p) _ _ (omega (arith, at-first-end .first-end .ensures)) (omega (arith, at-second-end .second-end .ensures)) (x .first), omega (arith, at-sample-no .sample-no .ensures, samples-few _ (s .pre .0 .sized), x .kind)),
       (e, first-solid (L s) (s .args .p) (s .args .kind) (s .pre .1) x e),
     ))
 
 returns-2 : tie.Need-returns-2
 returns-2 c =
-    let s = c .before .before .before .before .before .before .before .before .before in
+    let past = c .before .before .before .before in
+    let at-sample-no = past .before .before .before .before in
+    let s = at-sample-no .before in
     let x = s .pre .2 in
-    let u = u-is (c .before .before .before .before) in
-    let v = v-is (c .before .before .before .before) in
+    let u = u-is past in
+    let v = v-is past in
     let e = sym (side-is (c .before .before)) ∙ c .before .if1 .left in
-    let n = c .before .before .before .before .before .before .before .before .sample-no .ensures .0 in
+    let n = at-sample-no .sample-no .ensures .0 in
     c .record-of2 .ensures
     ∙ ((λ i. recordAt (L s) (7 * n i + s .args .kind) (u i) (v i))
     ∙ sym (record-solid (L s) (s .args .p) (s .args .kind) (s .pre .1) x e))

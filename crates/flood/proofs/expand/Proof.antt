@@ -51,8 +51,10 @@ loop-less c = search needs
 
 loop-again : tie.Need-loop-again Inv-loop μ-loop
 loop-again c =
-    let s = c .before .before .before .before .before .before .before .before .before .before .before in
-    (search needs, pushes-step (wordOf (L s)) (word-some (L s)) _ _ (c .before .before .before .before .before .before .before .before .loop .f) _ _ _ (c .before .before .before .before .before .before .before .before .loop .inv .1) (c .before .before .before .before .step-over .ensures))
+    let at-step-over = c .before .before .before .before in
+    let at-loop = at-step-over .before .before .before .before in
+    let s = at-loop .before .before .before in
+    (search needs, pushes-step (wordOf (L s)) (word-some (L s)) _ _ (at-loop .loop .f) _ _ _ (at-loop .loop .inv .1) (at-step-over .step-over .ensures))
 
 same-length : tie.Need-same-length Inv-loop μ-loop
 same-length c = kept (c .before) .on-words .same-length

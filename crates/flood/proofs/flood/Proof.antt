@@ -69,9 +69,10 @@ expanded : (l : tie.In-loop Inv-loop μ-loop) (p : Place) → p ≡ cubeAt (l .b
     (t : Flow) → t ≡ pushes (wordOf (L s)) (cubes (s .args .sizes)) (stepTo (L s) (cubeNo (s .args .sizes) p)) 6 b
     → t ≡ pushes (wordOf (L s)) (cubes (s .args .sizes)) (stepTo (L s) (cube l)) 6 b
 expanded l p e t q =
-    let s = l .before .before .before .before .before .before .before .before .before .before .before .before .before .before .before .before .before in
+    let at-loop = l .before in
+    let s = at-loop .before .before .before .before .before .before .before .before .before .before .before .before .before .before .before .before in
     let z = s .args .sizes in
-    q ∙ ap (λ (k : ℕ). pushes (wordOf (L s)) (cubes z) (stepTo (L s) k) 6 (flow (l .before .loop .words) (l .before .loop .waiting) (l .before .loop .h - 1)))
+    q ∙ ap (λ (k : ℕ). pushes (wordOf (L s)) (cubes z) (stepTo (L s) k) 6 (flow (at-loop .loop .words) (at-loop .loop .waiting) (at-loop .loop .h - 1)))
     (ap (cubeNo z) e ∙ cube-back z (s .pre .0 .0 .sized) (cube l) (popped l))
 
 -- what is so where the loop is left
@@ -79,16 +80,19 @@ left : (c : tie.After-loop Inv-loop μ-loop) → let s = c .before .before .befo
     Flooded (L s) (s .args .start) (now (s .args .words)) (now (s .args .waiting)) (c .before .loop .words) (c .before .loop .waiting) (c .before .loop .seen)
     × Beyond (cubes (s .args .sizes)) (now (s .args .words)) (c .before .loop .words)
 left c =
-    let s = c .before .before .before .before .before .before .before .before .before .before .before .before .before .before .before .before .before in
+    let at-loop = c .before in
+    let at-push-cube = at-loop .before .before .before .before .before in
+    let k = at-push-cube .before .before .before .before .before .before in
+    let at-cube-count = k .before .before in
+    let s = at-cube-count .before .before .before in
     let z = s .args .sizes in
-    let n = c .before .before .before .before .before .before .before .before .before .before .before .before .before .before .cube-count .ensures in
-    let k = c .before .before .before .before .before .before .before .before .before .before .before .before in
-    let p = push-kept-of (wordOf (L s)) (word-some (L s)) (cubes z) _ _ (c .before .before .before .before .before .before .push-cube .ensures) (roomy k) in
-    let e : c .before .loop .h ≡ 0 = omega arith in
+    let n = at-cube-count .cube-count .ensures in
+    let p = push-kept-of (wordOf (L s)) (word-some (L s)) (cubes z) _ _ (at-push-cube .push-cube .ensures) (roomy k) in
+    let e : at-loop .loop .h ≡ 0 = omega arith in
     let b = beyond-trans (beyond-cleared (cubes z) (now (s .args .words)) (k .clear-words .last .0) (s .pre .1 .0)
     (k .clear-words .ensures ∙ ap (λ (n : ℕ). cleared n (now (s .args .words))) (n .0))) (p .on-words) in (
-      finished (L s) (s .args .start) (s .pre .0 .1) _ _ _ _ _ (c .before .loop .seen) e (c .before .loop .inv) b (p .on-waiting),
-      on-words (L s) (s .args .start) (s .pre .0 .1) _ _ _ _ _ (c .before .loop .seen) e (c .before .loop .inv) b (p .on-waiting),
+      finished (L s) (s .args .start) (s .pre .0 .1) _ _ _ _ _ (at-loop .loop .seen) e (at-loop .loop .inv) b (p .on-waiting),
+      on-words (L s) (s .args .start) (s .pre .0 .1) _ _ _ _ _ (at-loop .loop .seen) e (at-loop .loop .inv) b (p .on-waiting),
     )
 
 cube-count-requires : tie.Need-cube-count-requires Inv-loop μ-loop
@@ -101,26 +105,34 @@ cube-at-requires : tie.Need-cube-at-requires Inv-loop μ-loop
 cube-at-requires c κs = search needs
 
 push-cube-requires : tie.Need-push-cube-requires Inv-loop μ-loop
-push-cube-requires c κs = ((c .before .before .before .before .before .before .before .before .before .before .pre .0 .0, c .before .before .cube-at .ensures .1), roomy (c .before .before .before .before .before))
+push-cube-requires c κs =
+    let past = c .before .before .before .before .before in
+    let s = past .before .before .before .before .before in
+    ((s .pre .0 .0, c .before .before .cube-at .ensures .1), roomy past)
 
 loop-holds : tie.Need-loop-holds Inv-loop μ-loop
 loop-holds c =
-    let s = c .before .before .before .before .before .before .before .before .before .before .before .before .before .before .before in
+    let at-push-cube = c .before .before .before .before in
+    let at-cube-at = at-push-cube .before .before .before in
+    let k = at-cube-at .before .before .before in
+    let at-cube-count = k .before .before in
+    let s = at-cube-count .before .before .before in
     let z = s .args .sizes in
-    let k = c .before .before .before .before .before .before .before .before .before .before in
-    let n = c .before .before .before .before .before .before .before .before .before .before .before .before .cube-count .ensures in
+    let n = at-cube-count .cube-count .ensures in
     turn-start (wordOf (L s)) (word-some (L s)) (cubes z) (stepTo (L s)) (Visited (L s) (s .args .start)) (visit-on (L s) (s .args .start))
-    (s .args .start) (now (s .args .words)) (c .before .before .before .before .before .before .before .before .before .before .clear-words .last .0) (now (s .args .waiting)) _ (s .pre .0 .1) here (roomy k)
-    (c .before .before .before .before .before .before .before .before .before .before .clear-words .ensures ∙ ap (λ (n : ℕ). cleared n (now (s .args .words))) (n .0))
-    (c .before .before .before .before .push-cube .ensures
-    ∙ ap (λ (d : ℕ). push (wordOf (L s)) (cubes z) d (flow (c .before .before .before .before .before .before .before .before .before .before .clear-words .last .0) (now (s .args .waiting)) 0))
-    (ap (cubeNo z) (c .before .before .before .before .before .before .before .cube-at .ensures .0) ∙ cube-back z (s .pre .0 .0 .sized) (s .args .start) (s .pre .0 .1)))
+    (s .args .start) (now (s .args .words)) (k .clear-words .last .0) (now (s .args .waiting)) _ (s .pre .0 .1) here (roomy k)
+    (k .clear-words .ensures ∙ ap (λ (n : ℕ). cleared n (now (s .args .words))) (n .0))
+    (at-push-cube .push-cube .ensures
+    ∙ ap (λ (d : ℕ). push (wordOf (L s)) (cubes z) d (flow (k .clear-words .last .0) (now (s .args .waiting)) 0))
+    (ap (cubeNo z) (at-cube-at .cube-at .ensures .0) ∙ cube-back z (s .pre .0 .0 .sized) (s .args .start) (s .pre .0 .1)))
 
 sub-h : tie.Need-sub-h Inv-loop μ-loop
 sub-h c = search needs
 
 add-seen : tie.Need-add-seen Inv-loop μ-loop
-add-seen c = omega (arith, c .before .loop .inv .level, c .before .before .before .before .before .before .before .before .before .before .before .before .before .before .cube-count .ensures)
+add-seen c =
+    let at-cube-count = c .before .before .before .before .before .before .before .before .before .before .before .before .before .before in
+    omega (arith, c .before .loop .inv .level, at-cube-count .cube-count .ensures)
 
 mul-k : tie.Need-mul-k Inv-loop μ-loop
 mul-k c = search needs
@@ -132,10 +144,14 @@ cast-k : tie.Need-cast-k Inv-loop μ-loop
 cast-k c = omega (arith, c .slice-known6 .given (c .before .before .loop .h - 1))
 
 cube-at-requires-2 : tie.Need-cube-at-requires-2 Inv-loop μ-loop
-cube-at-requires-2 c κs = (c .before .before .before .before .before .before .before .before .before .before .before .before .before .before .before .before .before .before .pre .0 .0 .sized, turn-cube _ _ _ _ _ _ _ _ _ _ _ _ _ _ (some (c .before)) (c .before .before .loop .inv))
+cube-at-requires-2 c κs =
+    let s = c .before .before .before .before .before .before .before .before .before .before .before .before .before .before .before .before .before .before in
+    (s .pre .0 .0 .sized, turn-cube _ _ _ _ _ _ _ _ _ _ _ _ _ _ (some (c .before)) (c .before .before .loop .inv))
 
 mul-m : tie.Need-mul-m Inv-loop μ-loop
-mul-m c = omega (arith, popped (c .before .before), c .before .before .before .before .before .before .before .before .before .before .before .before .before .before .before .before .cube-count .ensures)
+mul-m c =
+    let at-cube-count = c .before .before .before .before .before .before .before .before .before .before .before .before .before .before .before .before in
+    omega (arith, popped (c .before .before), at-cube-count .cube-count .ensures)
 
 slice-read-m : tie.Need-slice-read-m Inv-loop μ-loop
 slice-read-m c = omega (arith, popped (c .before .before .before), c .before .before .before .before .loop .inv .going .roomy .words-fit)
@@ -145,27 +161,36 @@ cast-m c = omega (arith, c .slice-known7 .given (cube (c .before .before .before
 
 expand-requires : tie.Need-expand-requires Inv-loop μ-loop
 expand-requires c κs =
-    let s = c .before .before .before .before .before .before .before .before .before .before .before .before .before .before .before .before .before .before .before .before .before .before in
-    let l = c .before .before .before .before .before in ((s .pre .0 .0, c .before .before .before .cube-at2 .ensures .1, pattern l (c .before .before .before .cube-at2 .result) (c .before .before .before .cube-at2 .ensures .0)), turn-roomy _ _ _ _ _ _ _ _ _ _ _ _ _ _ (some l) (c .before .before .before .before .before .before .loop .inv))
+    let at-cube-at2 = c .before .before .before in
+    let past = at-cube-at2 .before .before in
+    let at-loop = past .before in
+    let s = at-loop .before .before .before .before .before .before .before .before .before .before .before .before .before .before .before .before in
+    let l = past in ((s .pre .0 .0, at-cube-at2 .cube-at2 .ensures .1, pattern l (at-cube-at2 .cube-at2 .result) (at-cube-at2 .cube-at2 .ensures .0)), turn-roomy _ _ _ _ _ _ _ _ _ _ _ _ _ _ (some l) (at-loop .loop .inv))
 
 loop-less : tie.Need-loop-less Inv-loop μ-loop
 loop-less c =
-    let l = c .before .before .before .before .before .before .before .before .before .before in
-    turn-less _ _ _ _ _ _ _ _ _ _ _ _ _ _ (some l) (c .before .before .before .before .before .before .before .before .before .before .before .loop .inv) _ (expanded l (c .before .before .before .before .before .before .before .before .cube-at2 .result) (c .before .before .before .before .before .before .before .before .cube-at2 .ensures .0) _ (c .before .before .before .before .expand .ensures))
+    let at-expand = c .before .before .before .before in
+    let at-cube-at2 = at-expand .before .before .before .before in
+    let l = at-cube-at2 .before .before in
+    let at-loop = l .before in
+    turn-less _ _ _ _ _ _ _ _ _ _ _ _ _ _ (some l) (at-loop .loop .inv) _ (expanded l (at-cube-at2 .cube-at2 .result) (at-cube-at2 .cube-at2 .ensures .0) _ (at-expand .expand .ensures))
 
 loop-again : tie.Need-loop-again Inv-loop μ-loop
 loop-again c =
-    let l = c .before .before .before .before .before .before .before .before .before .before in
-    turn _ _ _ _ _ _ _ _ _ _ _ _ _ _ (some l) (c .before .before .before .before .before .before .before .before .before .before .before .loop .inv) _ (expanded l (c .before .before .before .before .before .before .before .before .cube-at2 .result) (c .before .before .before .before .before .before .before .before .cube-at2 .ensures .0) _ (c .before .before .before .before .expand .ensures))
+    let at-expand = c .before .before .before .before in
+    let at-cube-at2 = at-expand .before .before .before .before in
+    let l = at-cube-at2 .before .before in
+    let at-loop = l .before in
+    turn _ _ _ _ _ _ _ _ _ _ _ _ _ _ (some l) (at-loop .loop .inv) _ (expanded l (at-cube-at2 .cube-at2 .result) (at-cube-at2 .cube-at2 .ensures .0) _ (at-expand .expand .ensures))
 
 same-length : tie.Need-same-length Inv-loop μ-loop
-same-length c = left (c) .1 .same-length
+same-length c = left c .1 .same-length
 
 same-length-2 : tie.Need-same-length-2 Inv-loop μ-loop
-same-length-2 c = left (c) .0 .beyond .same-length
+same-length-2 c = left c .0 .beyond .same-length
 
 returns : tie.Need-returns Inv-loop μ-loop
-returns c = left (c) .0
+returns c = left c .0
 
 pub flood-spec : {M : Type 1} → statement M
 flood-spec =

@@ -39,9 +39,10 @@ word-at-requires c κs = search needs
 
 put-requires : tie.Need-put-requires
 put-requires c κs =
-    let s = c .before .before .before .before .before .before .before .before in
+    let at-cube-no = c .before .before .before .before .before in
+    let s = at-cube-no .before .before .before in
     let z = s .args .sizes in
-    let d = c .before .before .before .before .before .cube-no .ensures in
+    let d = at-cube-no .cube-no .ensures in
     let r = s .pre .1 in
     let h : s .args .height < cubes z =
     push-room (wordOf (L s)) (word-some (L s)) (cubes z) (cubeNo z (s .args .q)) (before s) r (omega (arith, d))
@@ -59,11 +60,15 @@ same-length-2 c = search needs
 
 returns-2 : tie.Need-returns-2
 returns-2 c =
-    let s = c .before .before .before .before .before .before .before .before .before .before .before .before .before in
+    let at-put = c .before .before .before .before in
+    let at-word-at = at-put .before .before .before in
+    let at-if1 = at-word-at .before in
+    let at-cube-no = at-if1 .before .before in
+    let s = at-cube-no .before .before .before in
     let z = s .args .sizes in
-    let d = c .before .before .before .before .before .before .before .before .before .before .cube-no .ensures in
-    let e : getD (now (s .args .words)) (cubeNo z (s .args .q)) 0 ≡ 0 = sym (ap (λ (d : ℕ). getD (now (s .args .words)) d 0) (d .0)) ∙ c .before .before .before .before .before .before .before .before .if1 .left in
-    rw (push-new (wordOf (L s)) (word-some (L s)) (cubes z) (cubeNo z (s .args .q)) (before s) (omega (arith, d)) e, c .before .before .before .before .put .ensures .0, c .before .before .before .before .put .ensures .1, c .before .before .before .before .before .before .before .word-at .ensures .0, d .0)
+    let d = at-cube-no .cube-no .ensures in
+    let e : getD (now (s .args .words)) (cubeNo z (s .args .q)) 0 ≡ 0 = sym (ap (λ (d : ℕ). getD (now (s .args .words)) d 0) (d .0)) ∙ at-if1 .if1 .left in
+    rw (push-new (wordOf (L s)) (word-some (L s)) (cubes z) (cubeNo z (s .args .q)) (before s) (omega (arith, d)) e, at-put .put .ensures .0, at-put .put .ensures .1, at-word-at .word-at .ensures .0, d .0)
 
 pub push-cube-spec : {M : Type 1} → statement M
 push-cube-spec =

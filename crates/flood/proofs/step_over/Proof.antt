@@ -54,14 +54,20 @@ same-length-2 c = search needs
 
 returns-3 : tie.Need-returns-3
 returns-3 c =
-    let s = c .before .before .before .before .before .before .before .before .before .before .before .before .before .before in
+    let at-push-cube = c .before .before .before .before in
+    let at-place-beyond = at-push-cube .before .before .before in
+    let at-if2 = at-place-beyond .before in
+    let at-has-neighbour = at-if2 .before in
+    let at-if1 = at-has-neighbour .before in
+    let at-is-mixed = at-if1 .before in
+    let s = at-is-mixed .before .before .before in
     let p = s .pre .0 in
     let z = s .args .sizes in
-    c .before .before .before .before .push-cube .ensures
+    at-push-cube .push-cube .ensures
     ∙ ap (λ (d : ℕ). push (wordOf (L s)) (cubes z) d (before s))
-    (ap (cubeNo z) (c .before .before .before .before .before .before .before .place-beyond .ensures .0)
+    (ap (cubeNo z) (at-place-beyond .place-beyond .ensures .0)
     ∙ sym (step-on (L s) (s .args .p) (p .1) (s .args .m) (s .args .f) (p .2) (p .3) (before s)
-    (sym (c .before .before .before .before .before .before .before .before .before .has-neighbour .ensures) ∙ not-false _ (c .before .before .before .before .before .before .before .before .if2 .left)) (sym (c .before .before .before .before .before .before .before .before .before .before .before .is-mixed .ensures) ∙ not-false _ (c .before .before .before .before .before .before .before .before .before .before .if1 .left))))
+    (sym (at-has-neighbour .has-neighbour .ensures) ∙ not-false _ (at-if2 .if2 .left)) (sym (at-is-mixed .is-mixed .ensures) ∙ not-false _ (at-if1 .if1 .left))))
 
 pub step-over-spec : {M : Type 1} → statement M
 step-over-spec =

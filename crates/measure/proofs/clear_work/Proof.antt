@@ -36,9 +36,13 @@ same-length-3 c = search needs
 
 returns : tie.Need-returns
 returns c =
-    let a = c .before .before .before .before .before .before .before .before .before .before .before .before .before .before .before .before .before .args in (
-      c .before .before .before .before .before .before .before .before .before .before .before .clear-words .ensures ∙ ap (λ (n : ℕ). cleared n (now (a .words))) (c .before .before .before .before .before .before .before .before .before .before .before .before .before .cube-count .ensures .0),
-      c .before .before .before .before .before .before .before .clear-list .ensures ∙ ap (λ (n : ℕ). cleared n (now (a .waiting))) (c .before .before .before .before .before .before .before .before .before .before .before .before .before .cube-count .ensures .0),
+    let at-clear-list = c .before .before .before .before .before .before .before in
+    let at-clear-words = at-clear-list .before .before .before .before in
+    let at-cube-count = at-clear-words .before .before in
+    let s = at-cube-count .before .before .before .before in
+    let a = s .args in (
+      at-clear-words .clear-words .ensures ∙ ap (λ (n : ℕ). cleared n (now (a .words))) (at-cube-count .cube-count .ensures .0),
+      at-clear-list .clear-list .ensures ∙ ap (λ (n : ℕ). cleared n (now (a .waiting))) (at-cube-count .cube-count .ensures .0),
       c .before .before .clear-list2 .ensures ∙ ap (λ (n : ℕ). cleared (7 * n) (now (a .slots))) (c .before .before .before .sample-count .ensures .0),
     )
 

@@ -41,20 +41,24 @@ same-length-3 c = search needs
 
 returns : tie.Need-returns
 returns c =
-    let s = c .before .before .before .before .before .before .before .before .before .before .before .before .before .before .before .before .before .before .before .before .before .before .before .before in
+    let at-mark-all = c .before .before .before .before .before .before in
+    let at-clear-list = at-mark-all .before .before .before .before .before in
+    let at-sample-count = at-clear-list .before .before in
+    let at-flood = at-sample-count .before .before .before .before .before in
+    let s = at-flood .before .before .before .before .before .before in
     let a = s .args in
     let L = lattice (a .sizes) (now (a .samples)) in
-    let f = c .before .before .before .before .before .before .before .before .before .before .before .before .before .before .before .before .before .before .flood .ensures in
+    let f = at-flood .flood .ensures in
     let w = f .marked in
-    let n = ap (λ (n : ℕ). 7 * n) (c .before .before .before .before .before .before .before .before .before .before .before .before .before .sample-count .ensures .0) in
+    let n = ap (λ (n : ℕ). 7 * n) (at-sample-count .sample-count .ensures .0) in
     let z = s .pre .0 .0 .sized in
-    let v = c .before .before .number-all .ensures .1 ∙ vertices-counted L z (a .cube) _ _ w _ n (now (a .slots)) _ _ (now (a .slots)) (s .pre .1 .2) (c .before .before .before .before .before .before .before .before .before .before .before .clear-list .ensures) (c .before .before .before .before .before .before .mark-all .ensures .0) in
-    let t = c .before .before .before .before .before .before .mark-all .ensures .1 ∙ triangles-counted L z (a .cube) _ _ w in
+    let v = c .before .before .number-all .ensures .1 ∙ vertices-counted L z (a .cube) _ _ w _ n (now (a .slots)) _ _ (now (a .slots)) (s .pre .1 .2) (at-clear-list .clear-list .ensures) (at-mark-all .mark-all .ensures .0) in
+    let t = at-mark-all .mark-all .ensures .1 ∙ triangles-counted L z (a .cube) _ _ w in
     let k = f .count ∙ visits-counted L z (a .cube) _ _ w in
     record {
       marked = w;
       beyond = f .beyond;
-      numbered = slots-numbered L z (a .cube) _ _ w _ n (now (a .slots)) _ _ _ (s .pre .1 .2) (c .before .before .before .before .before .before .before .before .before .before .before .clear-list .ensures) (c .before .before .before .before .before .before .mark-all .ensures .0) (c .before .before .number-all .ensures .0);
+      numbered = slots-numbered L z (a .cube) _ _ w _ n (now (a .slots)) _ _ _ (s .pre .1 .2) (at-clear-list .clear-list .ensures) (at-mark-all .mark-all .ensures .0) (c .before .before .number-all .ensures .0);
       counts = λ i. counts (v i) (t i) (k i);
     }
 

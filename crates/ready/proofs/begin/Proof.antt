@@ -32,7 +32,7 @@ unfolding sampleTests
 returns c = record { answer = rw (sym (c .before .axes-pass .ensures) ∙ not-true _ (c .if1 .taken)); begins = λ e. absurd (omega arith) }
 
 sample-count-requires : tie.Need-sample-count-requires
-sample-count-requires c κs = shaped (c)
+sample-count-requires c κs = shaped c
 
 returns-2 : tie.Need-returns-2
 unfolding sampleTests

@@ -35,8 +35,10 @@ sub-result c = search needs
 returns-3 : tie.Need-returns-3
 unfolding inLattice
 returns-3 c =
-    rw (lt-ltb (c .before .before .before .before .before .before .before .before .args .p .x + 1) (c .before .before .before .before .before .before .before .before .args .sizes .nx) (omega (arith, c .before .before .before .before .before .if1 .left)), lt-ltb (c .before .before .before .before .before .before .before .before .args .p .y + 1) (c .before .before .before .before .before .before .before .before .args .sizes .ny) (omega (arith, c .before .before .if2 .left)))
-    (less (c .before .before .before .before .before .before .before .before .args .p .z) (c .before .before .before .before .before .before .before .before .args .sizes .nz) (c .before .before .before .before .before .before .before .before .pre .z-low))
+    let at-if1 = c .before .before .before .before .before in
+    let s = at-if1 .before .before .before in
+    rw (lt-ltb (s .args .p .x + 1) (s .args .sizes .nx) (omega (arith, at-if1 .if1 .left)), lt-ltb (s .args .p .y + 1) (s .args .sizes .ny) (omega (arith, c .before .before .if2 .left)))
+    (less (s .args .p .z) (s .args .sizes .nz) (s .pre .z-low))
 
 pub is-cube-spec : {M : Type 1} → statement M
 is-cube-spec = tie.close (tie.spec sub-if1 returns sub-if2 returns-2 sub-result returns-3)

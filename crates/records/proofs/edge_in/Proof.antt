@@ -24,7 +24,7 @@ returns : tie.Need-returns
 returns c = (edge-below-zero (c .before .args .e) (c .before .args .n) (ap (λ (z : ℤ). ltZ z (pos 0)) (sym (is (c .before))) ∙ c .if1 .taken), omega arith)
 
 cast-m : tie.Need-cast-m
-cast-m c = subst (λ (z : ℤ). T (nonNeg z) × Fits w64 (natAbs z)) (sym (is (c .before))) (not-below-zero (c .before .args .e) (positive (c)), fits-natAbs {w = w32} tt (c .before .fits .e))
+cast-m c = subst (λ (z : ℤ). T (nonNeg z) × Fits w64 (natAbs z)) (sym (is (c .before))) (not-below-zero (c .before .args .e) (positive c), fits-natAbs {w = w32} tt (c .before .fits .e))
 
 returns-2 : tie.Need-returns-2
 returns-2 c =

@@ -47,12 +47,15 @@ all c = ap (λ (n : ℕ). 7 * n) (c .before .before .before .before .before .sam
 found : (c : tie.Else1 Inv-loop μ-loop) → let s = c .before .before .before .before .before .before .before .before .before in let i = c .before .before .before .before .loop .i in
     Found (L s) (vs s) (slotsAfter (L s) (vs s) (now (s .args .slots)) i) i
 found c =
-    let s = c .before .before .before .before .before .before .before .before .before in
-    let i = c .before .before .before .before .loop .i in
+    let at-loop = c .before .before .before .before in
+    let s = at-loop .before .before .before .before .before in
+    let i = at-loop .loop .i in
     record-good (L s) (vs s) (slotsAfter (L s) (vs s) (now (s .args .slots)) i) i (λ q. c .if1 .left (edge (c .before) ∙ (q ∙ sym (all (c .before)))))
 
 below : (c : tie.Else1 Inv-loop μ-loop) → c .before .good-edge .result < neededSlots (c .before .before .before .before .before .before .before .before .before .args .sizes)
-below c = subst (λ (k : ℕ). k < neededSlots (c .before .before .before .before .before .before .before .before .before .args .sizes)) (sym (edge (c .before))) (found c .below)
+below c =
+    let s = c .before .before .before .before .before .before .before .before .before in
+    subst (λ (k : ℕ). k < neededSlots (s .args .sizes)) (sym (edge (c .before))) (found c .below)
 
 sample-count-requires : tie.Need-sample-count-requires Inv-loop μ-loop
 sample-count-requires c κs = c .before .before .pre .0 .0 .sized
@@ -68,8 +71,9 @@ loop-holds c = (omega arith, after-none _ _ _, λ k h. absurd (omega arith))
 
 good-edge-requires : tie.Need-good-edge-requires Inv-loop μ-loop
 good-edge-requires c κs =
-    let s = c .before .before .before .before .before .before .before in
-    let v = c .before .before .before .vertex-count .ensures .0 in ((s .pre .0 .0, s .pre .0 .1, omega (arith, v, c .before .loop-test .taken)), (subst (AllCross (L s)) (sym (c .before .before .loop .inv .1)) (after-crossing (L s) (vs s) (now (s .args .slots)) (c .before .before .loop .i) (s .pre .1 .1) (s .pre .1 .0)), omega (arith, long (c .before .before), s .pre .1 .1)))
+    let at-loop = c .before .before in
+    let s = at-loop .before .before .before .before .before in
+    let v = c .before .before .before .vertex-count .ensures .0 in ((s .pre .0 .0, s .pre .0 .1, omega (arith, v, c .before .loop-test .taken)), (subst (AllCross (L s)) (sym (at-loop .loop .inv .1)) (after-crossing (L s) (vs s) (now (s .args .slots)) (at-loop .loop .i) (s .pre .1 .1) (s .pre .1 .0)), omega (arith, long at-loop, s .pre .1 .1)))
 
 same-length : tie.Need-same-length Inv-loop μ-loop
 same-length c = long (c .before .before .before .before)
@@ -77,18 +81,23 @@ same-length c = long (c .before .before .before .before)
 returns : tie.Need-returns Inv-loop μ-loop
 unfolding firstBadIn badIn
 returns c =
-    let s = c .before .before .before .before .before .before .before .before .before in
-    let i = c .before .before .before .before .loop .i in
+    let at-loop = c .before .before .before .before in
+    let at-vertex-count = at-loop .before in
+    let s = at-vertex-count .before .before .before .before in
+    let i = at-loop .loop .i in
     let l = slotsAfter (L s) (vs s) (now (s .args .slots)) i in
-    let v = c .before .before .before .before .before .vertex-count .ensures .0 in
+    let v = at-vertex-count .vertex-count .ensures .0 in
     let b = record-bad (L s) (vs s) l i (sym (edge (c .before)) ∙ (c .if1 .taken ∙ all (c .before))) in
-    (first-found (badIn (L s) (vs s) (now (s .args .slots))) (fileV (now (s .args .bytes))) i (omega (arith, v, c .before .before .before .loop-test .taken)) (c .before .before .before .before .loop .inv .2) (ap not b), c .before .before .before .before .loop .inv .1)
+    (first-found (badIn (L s) (vs s) (now (s .args .slots))) (fileV (now (s .args .bytes))) i (omega (arith, v, c .before .before .before .loop-test .taken)) (at-loop .loop .inv .2) (ap not b), at-loop .loop .inv .1)
 
 mul-slots : tie.Need-mul-slots Inv-loop μ-loop
-mul-slots c = omega (arith, below (c), all (c .before), c .before .before .before .before .before .before .sample-count .ensures)
+mul-slots c = omega (arith, below c, all (c .before), c .before .before .before .before .before .before .sample-count .ensures)
 
 slice-write-slots : tie.Need-slice-write-slots Inv-loop μ-loop
-slice-write-slots c = omega (arith, below (c), long (c .before .before .before .before), c .before .before .before .before .before .before .before .before .before .pre .1 .1)
+slice-write-slots c =
+    let past = c .before .before .before .before in
+    let s = past .before .before .before .before .before in
+    omega (arith, below c, long past, s .pre .1 .1)
 
 add-i : tie.Need-add-i Inv-loop μ-loop
 add-i c = omega arith
@@ -99,10 +108,11 @@ loop-less c = omega arith
 loop-again : tie.Need-loop-again Inv-loop μ-loop
 unfolding badIn
 loop-again c =
-    let s = c .before .before .before .before .before .before .before .before .before in
-    let i = c .before .before .before .before .loop .i in
-    let f = found (c) in
-    (omega arith, (λ j. set (c .before .before .before .before .loop .inv .1 j) ((edge (c .before) ∙ f .is) j) 0) ∙ after-more (L s) (vs s) (now (s .args .slots)) i, below-more _ _ (c .before .before .before .before .loop .inv .2) (ap not (f .good)))
+    let at-loop = c .before .before .before .before in
+    let s = at-loop .before .before .before .before .before in
+    let i = at-loop .loop .i in
+    let f = found c in
+    (omega arith, (λ j. set (at-loop .loop .inv .1 j) ((edge (c .before) ∙ f .is) j) 0) ∙ after-more (L s) (vs s) (now (s .args .slots)) i, below-more _ _ (at-loop .loop .inv .2) (ap not (f .good)))
 
 same-length-2 : tie.Need-same-length-2 Inv-loop μ-loop
 same-length-2 c = long (c .before)

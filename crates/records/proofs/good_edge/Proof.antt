@@ -37,7 +37,7 @@ vs s = fileVertices (now (s .args .bytes))
 all : (c : tie.After-edge-in) → 7 * c .before .before .sample-count .result ≡ neededSlots (c .before .before .before .before .before .args .sizes)
 all c = ap (λ (n : ℕ). 7 * n) (c .before .before .sample-count .ensures .0)
 
-edge : (c : tie.After-edge-in) → c .edge-in .result ≡ edgeAt (L (c .before .before .before .before .before)) (vs (c .before .before .before .before .before)) (c .before .before .before .before .before .args .i)
+edge : (c : tie.After-edge-in) → let s = c .before .before .before .before .before in c .edge-in .result ≡ edgeAt (L s) (vs s) (s .args .i)
 unfolding edgeAt edgeOf
 edge c =
     let w = c .before .record-word in
@@ -52,20 +52,23 @@ unfolding used
 in-use c = eq→T (ap not (ne-eqb _ _ (c .if2 .left)))
 
 -- the anchor and the kind give the edge back
-back : (c : tie.After-anchor-of) → 7 * sampleNo (c .before .before .before .before .before .before .before .before .before .args .sizes) (c .anchor-of .result) + c .before .before .before .before .edge-in .result % 7 ≡ c .before .before .before .before .edge-in .result
+back : (c : tie.After-anchor-of) → let e = c .before .before .before .before in 7 * sampleNo (e .before .before .before .before .before .args .sizes) (c .anchor-of .result) + e .edge-in .result % 7 ≡ e .edge-in .result
 back c =
-    let z = c .before .before .before .before .before .before .before .before .before .args .sizes in
-    let e = c .before .before .before .before .edge-in .result in
+    let at-edge-in = c .before .before .before .before in
+    let s = at-edge-in .before .before .before .before .before in
+    let z = s .args .sizes in
+    let e = at-edge-in .edge-in .result in
     let h = below (c .before .before .before) in
-    let q : sampleNo z (c .anchor-of .result) ≡ e / 7 = ap (sampleNo z) (c .anchor-of .ensures .0) ∙ sample-back z (c .before .before .before .before .before .before .before .before .before .pre .0 .0 .sized) (e / 7) (omega arith) in
+    let q : sampleNo z (c .anchor-of .result) ≡ e / 7 = ap (sampleNo z) (c .anchor-of .ensures .0) ∙ sample-back z (s .pre .0 .0 .sized) (e / 7) (omega arith) in
     omega arith
 
 -- the record is compared with the vertex's
-compared : (c : tie.After-same-record) → c .same-record .result
-    ≡ sameNumbers (recordOf (vs (c .before .before .before .before .before .before .before .before .before .before .before)) (c .before .before .before .before .before .before .before .before .before .before .before .args .i)) (vertexRecord (L (c .before .before .before .before .before .before .before .before .before .before .before)) (edgeAt (L (c .before .before .before .before .before .before .before .before .before .before .before)) (vs (c .before .before .before .before .before .before .before .before .before .before .before)) (c .before .before .before .before .before .before .before .before .before .before .before .args .i)))
+compared : (c : tie.After-same-record) → let s = c .before .before .before .before .before .before .before .before .before .before .before in
+    c .same-record .result ≡ sameNumbers (recordOf (vs s) (s .args .i)) (vertexRecord (L s) (edgeAt (L s) (vs s) (s .args .i)))
 compared c =
-    let s = c .before .before .before .before .before .before .before .before .before .before .before in
-    c .same-record .ensures ∙ ap (sameNumbers (recordOf (vs s) (s .args .i))) (c .before .vertex-on .ensures ∙ ap (vertexRecord (L s)) (back (c .before .before) ∙ edge (c .before .before .before .before .before .before)))
+    let past = c .before .before .before .before .before .before in
+    let s = past .before .before .before .before .before in
+    c .same-record .ensures ∙ ap (sameNumbers (recordOf (vs s) (s .args .i))) (c .before .vertex-on .ensures ∙ ap (vertexRecord (L s)) (back (c .before .before) ∙ edge past))
 
 sample-count-requires : tie.Need-sample-count-requires
 sample-count-requires c κs = search needs
@@ -92,29 +95,40 @@ shared-slice-read-if2 : tie.Need-shared-slice-read-if2
 shared-slice-read-if2 c = search needs
 
 returns-2 : tie.Need-returns-2
-returns-2 c = all (c .before .before .before) ∙ edge-idle (L (c .before .before .before .before .before .before .before .before)) (vs (c .before .before .before .before .before .before .before .before)) (now (c .before .before .before .before .before .before .before .before .args .slots)) (c .before .before .before .before .before .before .before .before .args .i) (ap (λ (e : ℕ). getD (now (c .before .before .before .before .before .before .before .before .args .slots)) e 0) (sym (edge (c .before .before .before))) ∙ c .if2 .taken)
+returns-2 c =
+    let s = c .before .before .before .before .before .before .before .before in
+    all (c .before .before .before) ∙ edge-idle (L s) (vs s) (now (s .args .slots)) (s .args .i) (ap (λ (e : ℕ). getD (now (s .args .slots)) e 0) (sym (edge (c .before .before .before))) ∙ c .if2 .taken)
 
 anchor-of-requires : tie.Need-anchor-of-requires
-anchor-of-requires c κs = (c .before .before .before .before .before .before .before .before .pre .0 .0 .sized, below (c .before .before))
+anchor-of-requires c κs =
+    let s = c .before .before .before .before .before .before .before .before in
+    (s .pre .0 .0 .sized, below (c .before .before))
 
 vertex-on-requires : tie.Need-vertex-on-requires
 vertex-on-requires c κs =
-    let s = c .before .before .before .before .before .before .before .before .before in
-    let e = c .before .before .before .before .edge-in .result in
+    let at-edge-in = c .before .before .before .before in
+    let s = at-edge-in .before .before .before .before .before in
+    let e = at-edge-in .edge-in .result in
     (s .pre .0 .0, c .anchor-of .ensures .1, subst (λ (p : Place). Crosses (L s) p (e % 7)) (sym (c .anchor-of .ensures .0)) (s .pre .1 .0 .at e (below (c .before .before .before)) (in-use (c .before))))
 
 same-record-requires : tie.Need-same-record-requires
 same-record-requires c κs = search needs
 
 returns-3 : tie.Need-returns-3
-returns-3 c = all (c .before .before .before .before .before .before .before) ∙ edge-wrong (L (c .before .before .before .before .before .before .before .before .before .before .before .before)) (vs (c .before .before .before .before .before .before .before .before .before .before .before .before)) (now (c .before .before .before .before .before .before .before .before .before .before .before .before .args .slots)) (c .before .before .before .before .before .before .before .before .before .before .before .before .args .i) (sym (compared (c .before)) ∙ not-true _ (c .if3 .taken))
+returns-3 c =
+    let past = c .before .before .before .before .before .before .before in
+    let s = past .before .before .before .before .before in
+    all past ∙ edge-wrong (L s) (vs s) (now (s .args .slots)) (s .args .i) (sym (compared (c .before)) ∙ not-true _ (c .if3 .taken))
 
 returns-4 : tie.Need-returns-4
 returns-4 c =
-    let s = c .before .before .before .before .before .before .before .before .before .before .before .before in
-    let q = edge (c .before .before .before .before .before .before .before) in
-    q ∙ edge-right (L s) (vs s) (now (s .args .slots)) (s .args .i) (subst (λ (e : ℕ). e < neededSlots (s .args .sizes)) q (below (c .before .before .before .before .before .before)))
-    (λ u. c .before .before .before .before .if2 .left (ap (λ (e : ℕ). getD (now (s .args .slots)) e 0) q ∙ u)) (sym (compared (c .before)) ∙ not-false _ (c .if3 .left))
+    let at-if2 = c .before .before .before .before in
+    let past = at-if2 .before .before in
+    let past₂ = past .before in
+    let s = past₂ .before .before .before .before .before in
+    let q = edge past₂ in
+    q ∙ edge-right (L s) (vs s) (now (s .args .slots)) (s .args .i) (subst (λ (e : ℕ). e < neededSlots (s .args .sizes)) q (below past))
+    (λ u. at-if2 .if2 .left (ap (λ (e : ℕ). getD (now (s .args .slots)) e 0) q ∙ u)) (sym (compared (c .before)) ∙ not-false _ (c .if3 .left))
 
 pub good-edge-spec : {M : Type 1} → statement M
 good-edge-spec =

@@ -54,13 +54,17 @@ room-number-requires c κs = search needs
 
 put-sheet-requires : tie.Need-put-sheet-requires
 put-sheet-requires c κs =
-    let s = c .before .before .before .before .before .before .before .before .before .before .before .before .before .before .before .before .before .before .before .before .before .before in
-    let b = begins (c .before .before .before .before .before .before .before .before .before .before .before .before .before .before .before) in
-    let m = c .before .before .before .before .before .before .before .before .before .before .before .measure .ensures in
-    let kept = c .before .before .before .before .before .before .before .before .before .before .before .measure .kept in
-    let k = c .before .before .before .before .before .before .before .before .before .before .before .before .before .before .before .before .before .begin .result .cube in
-    let n = c .before .before .before .before .room-number in
-    let found = c .before .before .before .before .before .before .before .before .before .before .before .measure .result in
+    let at-room-number = c .before .before .before .before in
+    let at-measure = at-room-number .before .before .before .before .before .before .before in
+    let past = at-measure .before .before .before .before in
+    let at-begin = past .before .before in
+    let s = at-begin .before .before .before .before .before in
+    let b = begins past in
+    let m = at-measure .measure .ensures in
+    let kept = at-measure .measure .kept in
+    let k = at-begin .begin .result .cube in
+    let n = at-room-number .room-number in
+    let found = at-measure .measure .result in
     let fits = room-tests (found .vertices) (found .triangles) (length (now (s .args .vertices)) / 4) (length (now (s .args .triangles)) / 3) in (
       (b .full, all-cross (L s) (b .full .sized) k _ _ (m .numbered)),
       (
@@ -76,8 +80,9 @@ put-sheet-requires c κs =
 
 clear-work-requires : tie.Need-clear-work-requires
 clear-work-requires c κs =
-    let b = begins (c .before .before .before .before .before .before .before .before .before .before .before .before .before .before .before .before .before .before .before .before .before .before) in
-    let kept = c .before .before .before .before .before .before .before .before .before .before .before .before .before .before .before .before .before .before .measure .kept in
+    let at-measure = c .before .before .before .before .before .before .before .before .before .before .before .before .before .before .before .before .before .before in
+    let b = begins (at-measure .before .before .before .before) in
+    let kept = at-measure .measure .kept in
     (b .full .sized, omega (arith, b .words-fit, kept), omega (arith, b .waiting-fit, kept), omega (arith, b .slots-fit, kept))
 
 same-length : tie.Need-same-length
@@ -97,15 +102,20 @@ same-length-5 c = search needs
 
 returns-2 : tie.Need-returns-2
 returns-2 c =
-    let s = c .before .before .before .before .before .before .before .before .before .before .before .before .before .before .before .before .before .before .before .before .before .before .before .before .before .before .before .before .before .before .before .before .before .before .before .before in
-    let e = c .before .before .before .before .before .before .before .before .before .before .before .before .before .before .before .before .before .before .before .before .before .before .before .before .before .before .before .before .before in
+    let at-clear-work = c .before .before .before .before .before .before in
+    let at-put-sheet = at-clear-work .before .before .before .before .before .before .before in
+    let at-room-number = at-put-sheet .before .before .before .before .before in
+    let at-measure = at-room-number .before .before .before .before .before .before .before in
+    let e = at-measure .before .before .before .before in
+    let at-begin = e .before .before in
+    let s = at-begin .before .before .before .before .before in
     let b = begins e in
-    let m = c .before .before .before .before .before .before .before .before .before .before .before .before .before .before .before .before .before .before .before .before .before .before .before .before .before .measure .ensures in
-    let k = c .before .before .before .before .before .before .before .before .before .before .before .before .before .before .before .before .before .before .before .before .before .before .before .before .before .before .before .before .before .before .before .begin .result .cube in
-    let number = c .before .before .before .before .before .before .before .before .before .before .before .before .before .before .before .before .before .before .room-number in
-    let put = c .before .before .before .before .before .before .before .before .before .before .before .before .before .put-sheet .ensures in
-    let clear = c .before .before .before .before .before .before .clear-work .ensures in
-    settled (L s) (s .args .start) (before s) (passed e) k (b .is) (c .before .before .before .before .before .before .before .before .before .before .before .before .before .before .before .before .before .before .before .before .before .before .before .before .before .measure .result) _ _ _ m _ _ _
+    let m = at-measure .measure .ensures in
+    let k = at-begin .begin .result .cube in
+    let number = at-room-number .room-number in
+    let put = at-put-sheet .put-sheet .ensures in
+    let clear = at-clear-work .clear-work .ensures in
+    settled (L s) (s .args .start) (before s) (passed e) k (b .is) (at-measure .measure .result) _ _ _ m _ _ _
     (clear .0) (clear .1) (clear .2) (number .result) (number .ensures) _ _
     (put .0 ∙ ap (λ (l : List ℤ). outputAfter (number .result) l (now (s .args .vertices))) (records-are (L s) (b .full .sized) k _ _ (m .numbered)))
     (put .1 ∙ ap (λ (l : List ℕ). outputAfter (number .result) l (now (s .args .triangles))) (words-are (L s) (b .full .sized) k _ _ (m .numbered) _ (triangles-listed (L s) (b .full .sized) k _ _ (m .marked))))

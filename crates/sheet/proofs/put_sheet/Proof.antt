@@ -17,8 +17,10 @@ put-vertices-requires c κs =
 
 put-triangles-requires : tie.Need-put-triangles-requires
 put-triangles-requires c κs =
-    let p = c .before .before .before .before .before .before .before .before .pre in
-    ((p .0 .0 .sized, p .1 .0 .0, p .1 .0 .1), p .1 .1 .1 (c .before .before .before .before .if1 .left))
+    let at-if1 = c .before .before .before .before in
+    let s = at-if1 .before .before .before .before in
+    let p = s .pre in
+    ((p .0 .0 .sized, p .1 .0 .0, p .1 .0 .1), p .1 .1 .1 (at-if1 .if1 .left))
 
 same-length : tie.Need-same-length
 same-length c = search needs
@@ -28,7 +30,10 @@ same-length-2 c = search needs
 
 returns-2 : tie.Need-returns-2
 unfolding outputAfter
-returns-2 c = rw (eq-eqb _ 0 (c .before .before .before .before .before .before .before .if1 .left)) (c .before .before .before .before .before .put-vertices .ensures, c .before .before .put-triangles .ensures)
+returns-2 c =
+    let at-put-vertices = c .before .before .before .before .before in
+    let at-if1 = at-put-vertices .before .before in
+    rw (eq-eqb _ 0 (at-if1 .if1 .left)) (at-put-vertices .put-vertices .ensures, c .before .before .put-triangles .ensures)
 
 pub put-sheet-spec : {M : Type 1} → statement M
 put-sheet-spec =

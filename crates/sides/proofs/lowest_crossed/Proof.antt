@@ -73,11 +73,15 @@ loop2-holds c = (omega arith, omega arith, c .before .before .loop .inv .2)
 crossed-at-requires :
     tie.Need-crossed-at-requires Inv-loop2 μ-loop2 Inv-loop μ-loop Inv-sought μ-sought
 unfolding x y z L
-crossed-at-requires c κs = (c .before .before .before .before .before .before .before .before .before .pre, inside (c))
+crossed-at-requires c κs =
+    let s = c .before .before .before .before .before .before .before .before .before in
+    (s .pre, inside c)
 
 add-k : tie.Need-add-k Inv-loop2 μ-loop2 Inv-loop μ-loop Inv-sought μ-sought
 unfolding L
-add-k c = omega (arith, under (c .before .before), cubes-few (c .before .before .before .before .before .before .before .before .before .before .before .args .sizes) (c .before .before .before .before .before .before .before .before .before .before .before .pre .sized))
+add-k c =
+    let s = c .before .before .before .before .before .before .before .before .before .before .before in
+    omega (arith, under (c .before .before), cubes-few (s .args .sizes) (s .pre .sized))
 
 add-x : tie.Need-add-x Inv-loop2 μ-loop2 Inv-loop μ-loop Inv-sought μ-sought
 add-x c = omega arith

@@ -36,7 +36,7 @@ sample-no-requires : tie.Need-sample-no-requires
 sample-no-requires c κs = search needs
 
 quarter-requires : tie.Need-quarter-requires
-quarter-requires c κs = omega (arith, far (c))
+quarter-requires c κs = omega (arith, far c)
 
 add-quarter : tie.Need-add-quarter
 add-quarter c = search needs

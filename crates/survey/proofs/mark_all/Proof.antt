@@ -31,7 +31,8 @@ module _ (c : tie.In-loop Inv-loop μ-loop) where
 -- the base of the cube
 base : (c : tie.After-sample-no Inv-loop μ-loop) → 7 * c .sample-no .result ≡ baseOf (c .before .before .before .before .before .before .before .before .args .sizes) (c .before .before .loop .k)
 base c =
-    here-base _ (c .before .before .before .before .before .before .before .before .pre .0) _ (c .before .before .loop .k) (below (c .before)) (c .before .before .loop .inv .1) _ (c .sample-no .ensures .0)
+    let s = c .before .before .before .before .before .before .before .before in
+    here-base _ (s .pre .0) _ (c .before .before .loop .k) (below (c .before)) (c .before .before .loop .inv .1) _ (c .sample-no .ensures .0)
 
 cube-count-requires : tie.Need-cube-count-requires Inv-loop μ-loop
 cube-count-requires c κs = search needs
@@ -47,62 +48,93 @@ unfolding edgesUpto trianglesUpto
 loop-holds c = (omega arith, first-cube _ (c .before .before .before .before .before .pre .0), refl, refl, omega arith)
 
 sample-no-requires : tie.Need-sample-no-requires Inv-loop μ-loop
-sample-no-requires c κs = (c .before .before .before .before .before .before .before .pre .0, low-in _ _ (inside (c)))
+sample-no-requires c κs =
+    let s = c .before .before .before .before .before .before .before in
+    (s .pre .0, low-in _ _ (inside c))
 
 mul-base : tie.Need-mul-base Inv-loop μ-loop
-mul-base c = omega (arith, c .sample-no .ensures, samples-few _ (c .before .before .before .before .before .before .before .before .pre .0))
+mul-base c =
+    let s = c .before .before .before .before .before .before .before .before in
+    omega (arith, c .sample-no .ensures, samples-few _ (s .pre .0))
 
 mul-mark-word : tie.Need-mul-mark-word Inv-loop μ-loop
-mul-mark-word c = omega (arith, c .before .before .before .before .before .before .before .before .cube-count .ensures)
+mul-mark-word c =
+    let at-cube-count = c .before .before .before .before .before .before .before .before in
+    omega (arith, at-cube-count .cube-count .ensures)
 
 shared-slice-read-mark-word : tie.Need-shared-slice-read-mark-word Inv-loop μ-loop
-shared-slice-read-mark-word c = omega (arith, c .before .before .before .before .before .before .before .before .before .cube-count .ensures, c .before .before .before .before .before .before .before .before .before .before .before .before .pre .1)
+shared-slice-read-mark-word c =
+    let at-cube-count = c .before .before .before .before .before .before .before .before .before in
+    let s = at-cube-count .before .before .before in
+    omega (arith, at-cube-count .cube-count .ensures, s .pre .1)
 
 mark-word-requires : tie.Need-mark-word-requires Inv-loop μ-loop
 mark-word-requires c κs =
-    let z = c .before .before .before .before .before .before .before .before .before .before .before .before .args .sizes in
-    let e : length (c .before .before .before .before .before .before .loop .slots) ≡ length (now (c .before .before .before .before .before .before .before .before .before .before .before .before .args .slots)) = ap length (c .before .before .before .before .before .before .loop .inv .2) ∙ stored-length 1 (edgesUpto z (now (c .before .before .before .before .before .before .before .before .before .before .before .before .args .words)) (c .before .before .before .before .before .before .loop .k)) (now (c .before .before .before .before .before .before .before .before .before .before .before .before .args .slots)) in
-    let l : 7 * samples z ≤ length (c .before .before .before .before .before .before .loop .slots) = omega (arith, c .before .before .before .before .before .before .before .before .before .before .before .before .pre .2) in (
-      subst (λ (b : ℕ). Slotted (c .before .before .before .before .before .before .before .before .local-steps .result) b (length (c .before .before .before .before .before .before .loop .slots))) (sym (base (c .before .before .before .before)))
-          (slotted z (c .before .before .before .before .before .before .before .before .before .before .before .before .pre .0) (c .before .before .before .before .before .before .loop .k) (below (c .before .before .before .before .before)) (c .before .before .before .before .before .before .before .before .local-steps .result) (c .before .before .before .before .before .before .before .before .local-steps .ensures) (length (c .before .before .before .before .before .before .loop .slots)) l),
-      c .before .before .before .before .before .before .before .pattern-counts .ensures,
+    let past = c .before .before .before .before in
+    let past₂ = past .before in
+    let at-loop = past₂ .before in
+    let at-pattern-counts = at-loop .before in
+    let at-local-steps = at-pattern-counts .before in
+    let s = at-local-steps .before .before .before .before in
+    let z = s .args .sizes in
+    let e : length (at-loop .loop .slots) ≡ length (now (s .args .slots)) = ap length (at-loop .loop .inv .2) ∙ stored-length 1 (edgesUpto z (now (s .args .words)) (at-loop .loop .k)) (now (s .args .slots)) in
+    let l : 7 * samples z ≤ length (at-loop .loop .slots) = omega (arith, s .pre .2) in (
+      subst (λ (b : ℕ). Slotted (at-local-steps .local-steps .result) b (length (at-loop .loop .slots))) (sym (base past))
+          (slotted z (s .pre .0) (at-loop .loop .k) (below past₂) (at-local-steps .local-steps .result) (at-local-steps .local-steps .ensures) (length (at-loop .loop .slots)) l),
+      at-pattern-counts .pattern-counts .ensures,
     )
 
 add-count : tie.Need-add-count Inv-loop μ-loop
-add-count c = omega (arith, c .before .before .mark-word .ensures .2, c .before .before .before .before .before .before .before .before .before .before .before .before .cube-count .ensures)
+add-count c =
+    let at-cube-count = c .before .before .before .before .before .before .before .before .before .before .before .before in
+    omega (arith, c .before .before .mark-word .ensures .2, at-cube-count .cube-count .ensures)
 
 next-cube-requires : tie.Need-next-cube-requires Inv-loop μ-loop
-next-cube-requires c κs = (c .before .before .before .before .before .before .before .before .before .before .before .before .before .before .before .pre .0, inside (c .before .before .before .before .before .before .before .before))
+next-cube-requires c κs =
+    let past = c .before .before .before .before .before .before .before .before in
+    let s = past .before .before .before .before .before .before .before in
+    (s .pre .0, inside past)
 
 add-k : tie.Need-add-k Inv-loop μ-loop
-add-k c = omega (arith, c .before .before .before .before .before .before .before .before .before .before .before .before .before .cube-count .ensures)
+add-k c =
+    let at-cube-count = c .before .before .before .before .before .before .before .before .before .before .before .before .before in
+    omega (arith, at-cube-count .cube-count .ensures)
 
 loop-less : tie.Need-loop-less Inv-loop μ-loop
 loop-less c = omega arith
 
 loop-again : tie.Need-loop-again Inv-loop μ-loop
 loop-again c =
-    let s = c .before .before .before .before .before .before .before .before .before .before .before .before .before .before .before .before in
+    let at-mark-word = c .before .before .before in
+    let past = at-mark-word .before .before .before .before .before in
+    let past₂ = past .before in
+    let at-loop = past₂ .before in
+    let at-local-steps = at-loop .before .before in
+    let s = at-local-steps .before .before .before .before in
     let z = s .args .sizes in
     let w = now (s .args .words) in
-    let k = c .before .before .before .before .before .before .before .before .before .before .loop .k in (
+    let k = at-loop .loop .k in (
       omega arith,
-      next-at z (s .pre .0) _ k (below (c .before .before .before .before .before .before .before .before .before)) (c .before .before .before .before .before .before .before .before .before .before .loop .inv .1) _ (c .next-cube .ensures),
-      c .before .before .before .mark-word .ensures .0 ∙ ((λ i. marks (edges-in z w k _ _ (c .before .before .before .before .before .before .before .before .before .before .before .before .local-steps .ensures) (base (c .before .before .before .before .before .before .before .before)) i) (c .before .before .before .before .before .before .before .before .before .before .loop .inv .2 i)) ∙ marks-more z w k (now (s .args .slots))),
-      (λ i. c .before .before .before .before .before .before .before .before .before .before .loop .inv .3 i + (c .before .before .before .mark-word .ensures .1 ∙ count-in z w k) i) ∙ count-more z w k,
-      omega (arith, c .before .before .before .mark-word .ensures .2),
+      next-at z (s .pre .0) _ k (below past₂) (at-loop .loop .inv .1) _ (c .next-cube .ensures),
+      at-mark-word .mark-word .ensures .0 ∙ ((λ i. marks (edges-in z w k _ _ (at-local-steps .local-steps .ensures) (base past) i) (at-loop .loop .inv .2 i)) ∙ marks-more z w k (now (s .args .slots))),
+      (λ i. at-loop .loop .inv .3 i + (at-mark-word .mark-word .ensures .1 ∙ count-in z w k) i) ∙ count-more z w k,
+      omega (arith, at-mark-word .mark-word .ensures .2),
     )
 
 same-length : tie.Need-same-length Inv-loop μ-loop
-same-length c = ap length (c .before .loop .inv .2) ∙ stored-length 1 (edgesUpto (c .before .before .before .before .before .before .before .args .sizes) (now (c .before .before .before .before .before .before .before .args .words)) (c .before .loop .k)) (now (c .before .before .before .before .before .before .before .args .slots))
+same-length c =
+    let s = c .before .before .before .before .before .before .before in
+    ap length (c .before .loop .inv .2) ∙ stored-length 1 (edgesUpto (s .args .sizes) (now (s .args .words)) (c .before .loop .k)) (now (s .args .slots))
 
 returns : tie.Need-returns Inv-loop μ-loop
 returns c =
-    let s = c .before .before .before .before .before .before .before in
+    let at-loop = c .before in
+    let at-cube-count = at-loop .before .before .before in
+    let s = at-cube-count .before .before .before in
     let z = s .args .sizes in
     let w = now (s .args .words) in
-    let e : c .before .loop .k ≡ cubes z = omega (arith, c .loop-test .left, c .before .before .before .before .cube-count .ensures) in
-    (c .before .loop .inv .2 ∙ ap (λ (n : ℕ). marks (edgesUpto z w n) (now (s .args .slots))) e, c .before .loop .inv .3 ∙ ap (λ (n : ℕ). length (trianglesUpto z w n)) e)
+    let e : at-loop .loop .k ≡ cubes z = omega (arith, c .loop-test .left, at-cube-count .cube-count .ensures) in
+    (at-loop .loop .inv .2 ∙ ap (λ (n : ℕ). marks (edgesUpto z w n) (now (s .args .slots))) e, at-loop .loop .inv .3 ∙ ap (λ (n : ℕ). length (trianglesUpto z w n)) e)
 
 pub mark-all-spec : {M : Type 1} → statement M
 mark-all-spec =

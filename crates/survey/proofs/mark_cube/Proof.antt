@@ -46,8 +46,11 @@ loop-less c = omega arith
 
 loop-again : tie.Need-loop-again Inv-loop μ-loop
 loop-again c =
-    let a = c .before .before .before .before .before .before .before .before .before .args in
-    (omega arith, c .before .before .mark-if .ensures ∙ ((λ i. marks (consIf (c .before .before .before .before .before .local-split .ensures i) (a .base + getD (now (a .steps)) (c .before .before .before .before .before .before .before .loop .j) 0) []) (c .before .before .before .before .before .before .before .loop .inv .1 i)) ∙ marked-more (now (a .steps)) (a .base) (a .m) (now (a .slots)) (c .before .before .before .before .before .before .before .loop .j)))
+    let at-local-split = c .before .before .before .before .before in
+    let at-loop = at-local-split .before .before in
+    let s = at-loop .before .before in
+    let a = s .args in
+    (omega arith, c .before .before .mark-if .ensures ∙ ((λ i. marks (consIf (at-local-split .local-split .ensures i) (a .base + getD (now (a .steps)) (at-loop .loop .j) 0) []) (at-loop .loop .inv .1 i)) ∙ marked-more (now (a .steps)) (a .base) (a .m) (now (a .slots)) (at-loop .loop .j)))
 
 same-length : tie.Need-same-length Inv-loop μ-loop
 same-length c = long (c .before)

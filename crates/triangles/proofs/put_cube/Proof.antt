@@ -57,17 +57,20 @@ loop-less c = omega arith
 
 loop-again : tie.Need-loop-again Inv-loop μ-loop
 loop-again c =
-    let a = c .before .before .before .before .before .before .before .before .before .args in
+    let past = c .before .before .before .before in
+    let at-loop = past .before .before in
+    let s = at-loop .before .before .before in
+    let a = s .args in
     let l = now (a .slots) in
-    let t = c .before .before .before .before .before .before .loop .t in
+    let t = at-loop .loop .t in
     let f = rowsTo (a .sizes) (a .base) (a .m) t in
     let g = rowTriangles (a .sizes) (a .base) t (rowBy (a .m) t) in
-    let e = row-is (c .before .before .before .before) in (
+    let e = row-is past in (
       omega arith,
       c .before .before .put-row .ensures .0
-          ∙ ((λ i. sets (c .before .before .before .before .before .before .loop .inv .1 i) (3 * c .before .before .before .before .before .before .loop .inv .2 i) (wordsFor l (e i)))
+          ∙ ((λ i. sets (at-loop .loop .inv .1 i) (3 * at-loop .loop .inv .2 i) (wordsFor l (e i)))
           ∙ (written-more l (a .at) (now (a .triangles)) f g ∙ ap (λ (ts : List Tri). writtenTo l ts (a .at) (now (a .triangles))) (rows-more (a .sizes) (a .base) (a .m) t))),
-      omega (arith, c .before .before .put-row .ensures .1, c .before .before .before .before .before .before .loop .inv .2, ap length e, ap length (rows-more (a .sizes) (a .base) (a .m) t), length-append f g),
+      omega (arith, c .before .before .put-row .ensures .1, at-loop .loop .inv .2, ap length e, ap length (rows-more (a .sizes) (a .base) (a .m) t), length-append f g),
     )
 
 same-length : tie.Need-same-length Inv-loop μ-loop

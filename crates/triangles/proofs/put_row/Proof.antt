@@ -51,38 +51,47 @@ loop-holds : tie.Need-loop-holds Inv-loop μ-loop
 loop-holds c = let a = c .before .before .before .args in (omega arith, written-none (now (a .slots)) (a .at) (now (a .triangles)) ∙ ap (λ (l : List Tri). writtenTo (now (a .slots)) l (a .at) (now (a .triangles))) (sym (first-none (a .sizes) (a .base) (a .t) (a .r))))
 
 row-triangle-requires : tie.Need-row-triangle-requires Inv-loop μ-loop
-row-triangle-requires c κs = let p = c .before .before .before .before .before .pre .0 in (p .0, p .1, p .2, p .3, below (c), p .4)
+row-triangle-requires c κs = let p = c .before .before .before .before .before .pre .0 in (p .0, p .1, p .2, p .3, below c, p .4)
 
 add-put-triangle : tie.Need-add-put-triangle Inv-loop μ-loop
 unfolding ts
-add-put-triangle c = omega (arith, count (c .before .before .before), c .before .before .before .before .before .before .before .pre .1 .1)
+add-put-triangle c =
+    let s = c .before .before .before .before .before .before .before in
+    omega (arith, count (c .before .before .before), s .pre .1 .1)
 
 put-triangle-requires : tie.Need-put-triangle-requires Inv-loop μ-loop
 unfolding ts
 put-triangle-requires c κs =
-    let s = c .before .before .before .before .before .before .before in
+    let at-loop = c .before .before .before in
+    let s = at-loop .before .before .before .before in
     let a = s .args in
-    let g = subst (Below (length (now (a .slots)))) (sym (c .before .row-triangle .ensures)) (row-below (a .sizes) (a .base) (a .t) (a .r) (c .before .before .before .loop .j) _ (s .pre .1 .0) (s .pre .0 .2) (s .pre .0 .3) (below (c .before .before))) in
-    (omega (arith, count (c .before .before .before), s .pre .1 .1, long (c .before .before .before)), g .a, g .b, g .c)
+    let g = subst (Below (length (now (a .slots)))) (sym (c .before .row-triangle .ensures)) (row-below (a .sizes) (a .base) (a .t) (a .r) (at-loop .loop .j) _ (s .pre .1 .0) (s .pre .0 .2) (s .pre .0 .3) (below (c .before .before))) in
+    (omega (arith, count at-loop, s .pre .1 .1, long at-loop), g .a, g .b, g .c)
 
 add-j : tie.Need-add-j Inv-loop μ-loop
-add-j c = omega (arith, c .before .before .before .before .before .before .before .row-count .ensures)
+add-j c =
+    let at-row-count = c .before .before .before .before .before .before .before in
+    omega (arith, at-row-count .row-count .ensures)
 
 loop-less : tie.Need-loop-less Inv-loop μ-loop
 loop-less c = omega arith
 
 loop-again : tie.Need-loop-again Inv-loop μ-loop
 loop-again c =
-    let a = c .before .before .before .before .before .before .before .before .before .before .args in
+    let at-row-triangle = c .before .before .before .before in
+    let past = at-row-triangle .before in
+    let at-loop = past .before in
+    let s = at-loop .before .before .before .before in
+    let a = s .args in
     let l = now (a .slots) in
-    let j = c .before .before .before .before .before .before .loop .j in
-    let h = below (c .before .before .before .before .before) in
+    let j = at-loop .loop .j in
+    let h = below past in
     let f = firstOf (a .sizes) (a .base) (a .t) (a .r) j in
     let g = getD (rowTriangles (a .sizes) (a .base) (a .t) (a .r)) j (tri 0 0 0) in
     let e : j ≡ length f = sym (first-length (a .sizes) (a .base) (a .t) (a .r) j (omega (arith, h))) in (
       omega arith,
       c .before .before .put-triangle .ensures
-          ∙ ((λ i. sets (c .before .before .before .before .before .before .loop .inv .1 i) (3 * (a .at + e i)) ((ap (λ (t : Tri). corners3 (byNumber l t)) (c .before .before .before .before .row-triangle .ensures) ∙ sym (words-one l g)) i))
+          ∙ ((λ i. sets (at-loop .loop .inv .1 i) (3 * (a .at + e i)) ((ap (λ (t : Tri). corners3 (byNumber l t)) (at-row-triangle .row-triangle .ensures) ∙ sym (words-one l g)) i))
           ∙ (written-more l (a .at) (now (a .triangles)) f (g ∷ [])
           ∙ ap (λ (ts : List Tri). writtenTo l ts (a .at) (now (a .triangles))) (first-more (a .sizes) (a .base) (a .t) (a .r) j h))),
     )

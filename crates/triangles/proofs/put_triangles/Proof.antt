@@ -27,7 +27,8 @@ abbrev μ-loop : tie.MeasureT-loop
 
 long : (c : tie.At-loop Inv-loop μ-loop) → length (c .loop .triangles) ≡ length (now (c .before .before .before .before .before .before .before .args .triangles))
 long c =
-    let a = c .before .before .before .before .before .before .before .args in
+    let s = c .before .before .before .before .before .before .before in
+    let a = s .args in
     ap length (c .loop .inv .2) ∙ written-length (now (a .slots)) 0 (now (a .triangles)) (trianglesUpto (a .sizes) (now (a .words)) (c .loop .k))
 
 module _ (c : tie.In-loop Inv-loop μ-loop) where
@@ -64,56 +65,78 @@ loop-holds c =
     (omega arith, first-cube _ (c .before .before .before .before .before .before .pre .0 .0), written-none (now (a .slots)) 0 (now (a .triangles)) ∙ ap (λ (l : List Tri). writtenTo (now (a .slots)) l 0 (now (a .triangles))) e, omega (arith, ap length e))
 
 sample-no-requires : tie.Need-sample-no-requires Inv-loop μ-loop
-sample-no-requires c κs = (c .before .before .before .before .before .before .before .before .pre .0 .0, low-in _ _ (inside (c)))
+sample-no-requires c κs =
+    let s = c .before .before .before .before .before .before .before .before in
+    (s .pre .0 .0, low-in _ _ (inside c))
 
 mul-base : tie.Need-mul-base Inv-loop μ-loop
-mul-base c = omega (arith, c .sample-no .ensures, samples-few _ (c .before .before .before .before .before .before .before .before .before .pre .0 .0))
+mul-base c =
+    let s = c .before .before .before .before .before .before .before .before .before in
+    omega (arith, c .sample-no .ensures, samples-few _ (s .pre .0 .0))
 
 mul-put-word : tie.Need-mul-put-word Inv-loop μ-loop
-mul-put-word c = omega (arith, c .before .before .before .before .before .before .before .before .cube-count .ensures)
+mul-put-word c =
+    let at-cube-count = c .before .before .before .before .before .before .before .before in
+    omega (arith, at-cube-count .cube-count .ensures)
 
 shared-slice-read-put-word : tie.Need-shared-slice-read-put-word Inv-loop μ-loop
-shared-slice-read-put-word c = omega (arith, c .before .before .before .before .before .before .before .before .before .cube-count .ensures, c .before .before .before .before .before .before .before .before .before .before .before .before .before .pre .0 .1)
+shared-slice-read-put-word c =
+    let at-cube-count = c .before .before .before .before .before .before .before .before .before in
+    let s = at-cube-count .before .before .before .before in
+    omega (arith, at-cube-count .cube-count .ensures, s .pre .0 .1)
 
 put-word-requires : tie.Need-put-word-requires Inv-loop μ-loop
 put-word-requires c κs =
-    let s = c .before .before .before .before .before .before .before .before .before .before .before .before .before in
+    let at-sample-no = c .before .before .before .before in
+    let past = at-sample-no .before in
+    let at-loop = past .before in
+    let at-row-steps = at-loop .before in
+    let at-tet-corners = at-row-steps .before in
+    let s = at-tet-corners .before .before .before .before .before in
     let a = s .args in
     let z = a .sizes in
     let l : 7 * samples z ≤ length (now (a .slots)) = s .pre .0 .2 in (
-      (s .pre .0 .0, c .before .before .before .before .before .before .before .before .tet-corners .ensures, c .before .before .before .before .before .before .before .row-steps .ensures, omega (arith, c .before .before .before .before .sample-no .ensures, samples-few z (s .pre .0 .0))),
+      (s .pre .0 .0, at-tet-corners .tet-corners .ensures, at-row-steps .row-steps .ensures, omega (arith, at-sample-no .sample-no .ensures, samples-few z (s .pre .0 .0))),
       (
-        subst (λ (b : ℕ). TetSlotted z b (length (now (a .slots)))) (sym (base (c .before .before .before .before))) (tet-slotted z (s .pre .0 .0) (c .before .before .before .before .before .before .loop .k) (below (c .before .before .before .before .before)) (length (now (a .slots))) l),
-        omega (arith, s .pre .1, long (c .before .before .before .before .before .before), c .before .before .before .before .before .before .loop .inv .3, ap length (come (c .before .before .before .before)), cubes-fit z (now (a .words)) (c .before .before .before .before .before .before .loop .k) (cubes z) (below (c .before .before .before .before .before))),
+        subst (λ (b : ℕ). TetSlotted z b (length (now (a .slots)))) (sym (base at-sample-no)) (tet-slotted z (s .pre .0 .0) (at-loop .loop .k) (below past) (length (now (a .slots))) l),
+        omega (arith, s .pre .1, long at-loop, at-loop .loop .inv .3, ap length (come at-sample-no), cubes-fit z (now (a .words)) (at-loop .loop .k) (cubes z) (below past)),
       ),
     )
 
 next-cube-requires : tie.Need-next-cube-requires Inv-loop μ-loop
-next-cube-requires c κs = (c .before .before .before .before .before .before .before .before .before .before .before .before .before .before .before .before .pre .0 .0, inside (c .before .before .before .before .before .before .before .before))
+next-cube-requires c κs =
+    let past = c .before .before .before .before .before .before .before .before in
+    let s = past .before .before .before .before .before .before .before .before in
+    (s .pre .0 .0, inside past)
 
 add-k : tie.Need-add-k Inv-loop μ-loop
-add-k c = omega (arith, c .before .before .before .before .before .before .before .before .before .before .before .before .before .cube-count .ensures)
+add-k c =
+    let at-cube-count = c .before .before .before .before .before .before .before .before .before .before .before .before .before in
+    omega (arith, at-cube-count .cube-count .ensures)
 
 loop-less : tie.Need-loop-less Inv-loop μ-loop
 loop-less c = omega arith
 
 loop-again : tie.Need-loop-again Inv-loop μ-loop
 loop-again c =
-    let s = c .before .before .before .before .before .before .before .before .before .before .before .before .before .before .before .before .before in
+    let past = c .before .before .before .before .before .before .before .before in
+    let past₂ = past .before in
+    let at-loop = past₂ .before in
+    let s = at-loop .before .before .before .before .before .before .before in
     let a = s .args in
     let z = a .sizes in
     let w = now (a .words) in
     let l = now (a .slots) in
-    let k = c .before .before .before .before .before .before .before .before .before .before .loop .k in
+    let k = at-loop .loop .k in
     let f = trianglesUpto z w k in
     let g = trianglesIn z w k in
-    let e = come (c .before .before .before .before .before .before .before .before) in (
+    let e = come past in (
       omega arith,
-      next-at z (s .pre .0 .0) _ k (below (c .before .before .before .before .before .before .before .before .before)) (c .before .before .before .before .before .before .before .before .before .before .loop .inv .1) _ (c .next-cube .ensures),
+      next-at z (s .pre .0 .0) _ k (below past₂) (at-loop .loop .inv .1) _ (c .next-cube .ensures),
       c .before .before .before .put-word .ensures .0
-          ∙ ((λ i. sets (c .before .before .before .before .before .before .before .before .before .before .loop .inv .2 i) (3 * (c .before .before .before .before .before .before .before .before .before .before .loop .inv .3 ∙ sym (zero-add (length f))) i) (wordsFor l (e i)))
+          ∙ ((λ i. sets (at-loop .loop .inv .2 i) (3 * (at-loop .loop .inv .3 ∙ sym (zero-add (length f))) i) (wordsFor l (e i)))
           ∙ (written-more l 0 (now (a .triangles)) f g ∙ ap (λ (ts : List Tri). writtenTo l ts 0 (now (a .triangles))) (cubes-more z w k))),
-      omega (arith, c .before .before .before .put-word .ensures .1, c .before .before .before .before .before .before .before .before .before .before .loop .inv .3, ap length e, ap length (cubes-more z w k), length-append f g),
+      omega (arith, c .before .before .before .put-word .ensures .1, at-loop .loop .inv .3, ap length e, ap length (cubes-more z w k), length-append f g),
     )
 
 same-length : tie.Need-same-length Inv-loop μ-loop
@@ -121,12 +144,14 @@ same-length c = long (c .before)
 
 returns : tie.Need-returns Inv-loop μ-loop
 returns c =
-    let a = c .before .before .before .before .before .before .before .before .args in
+    let at-cube-count = c .before .before .before .before in
+    let s = at-cube-count .before .before .before .before in
+    let a = s .args in
     let z = a .sizes in
     let w = now (a .words) in
-    let q : c .before .loop .k ≡ cubes z = omega (arith, c .loop-test .left, c .before .before .before .before .cube-count .ensures) in
+    let q : c .before .loop .k ≡ cubes z = omega (arith, c .loop-test .left, at-cube-count .cube-count .ensures) in
     c .before .loop .inv .2
-    ∙ (ap (λ (k : ℕ). writtenTo (now (a .slots)) (trianglesUpto z w k) 0 (now (a .triangles))) q ∙ written-front (now (a .slots)) (trianglesUpto z w (cubes z)) (now (a .triangles)) (c .before .before .before .before .before .before .before .before .pre .1))
+    ∙ (ap (λ (k : ℕ). writtenTo (now (a .slots)) (trianglesUpto z w k) 0 (now (a .triangles))) q ∙ written-front (now (a .slots)) (trianglesUpto z w (cubes z)) (now (a .triangles)) (s .pre .1))
 
 pub put-triangles-spec : {M : Type 1} → statement M
 put-triangles-spec =

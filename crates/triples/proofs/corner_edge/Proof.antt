@@ -33,7 +33,7 @@ mul-record-word : tie.Need-mul-record-word
 mul-record-word c = search needs
 
 record-word-requires : tie.Need-record-word-requires
-record-word-requires c κs = (c .before .before .pre .0 .ranged, omega (arith, index (c)))
+record-word-requires c κs = (c .before .before .pre .0 .ranged, omega (arith, index c))
 
 edge-in-requires : tie.Need-edge-in-requires
 edge-in-requires c κs = search needs
@@ -43,7 +43,7 @@ unfolding cornerOf
 returns c =
     let s = c .before .before .before .before in
     let h : edgeIn (edgeOf (fileVertices (now (s .args .bytes))) (c .before .before .triangle-word .result)) (s .args .n) < s .args .n = s .pre .3 .below (c .before .before .triangle-word .result) (omega (arith, index (c .before .before), s .pre .1)) in
-    let e = edge (c) in
+    let e = edge c in
     (e ∙ (named-is (edgeOf (fileVertices (now (s .args .bytes))) (c .before .before .triangle-word .result)) (s .args .n) h ∙ ap (λ (v : ℕ). natAbs (edgeOf (fileVertices (now (s .args .bytes))) v)) (c .before .before .triangle-word .ensures)), subst (λ (k : ℕ). k < s .args .n) (sym e) h)
 
 pub corner-edge-spec : {M : Type 1} → statement M

@@ -63,13 +63,18 @@ add-result-2 c = omega (arith, small (c .before .before), low (c .before .before
 returns : tie.Need-returns
 unfolding holder cubeNo
 returns c =
-    let a = c .before .before .before .before .before .before .before .anchor-of .ensures .0 in
-    let b = c .before .before .before .before .before .before .anchor-of2 .ensures .0 in
-    let d = c .before .before .before .before .before .anchor-of3 .ensures .0 in
-    let x = c .before .before .before .before .least .ensures ∙ (λ j. min (min (a j .x) (b j .x)) (d j .x)) in
+    let at-least = c .before .before .before .before in
+    let at-anchor-of3 = at-least .before in
+    let at-anchor-of2 = at-anchor-of3 .before in
+    let at-anchor-of = at-anchor-of2 .before in
+    let s = at-anchor-of .before in
+    let a = at-anchor-of .anchor-of .ensures .0 in
+    let b = at-anchor-of2 .anchor-of2 .ensures .0 in
+    let d = at-anchor-of3 .anchor-of3 .ensures .0 in
+    let x = at-least .least .ensures ∙ (λ j. min (min (a j .x) (b j .x)) (d j .x)) in
     let y = c .before .before .before .least2 .ensures ∙ (λ j. min (min (a j .y) (b j .y)) (d j .y)) in
     let z = c .before .before .least3 .ensures ∙ (λ j. min (min (a j .z) (b j .z)) (d j .z)) in
-    λ j. x j + (c .before .before .before .before .before .before .before .before .args .sizes .nx - 1) * (y j + (c .before .before .before .before .before .before .before .before .args .sizes .ny - 1) * z j)
+    λ j. x j + (s .args .sizes .nx - 1) * (y j + (s .args .sizes .ny - 1) * z j)
 
 pub holder-of-spec : {M : Type 1} → statement M
 holder-of-spec =

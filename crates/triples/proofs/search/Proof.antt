@@ -61,12 +61,15 @@ place-in-requires c κs =
 returns-2 : tie.Need-returns-2
 unfolding placeOf baseOf
 returns-2 c =
-    let s = c .before .before .before .before .before .before .before .before in
+    let at-if1 = c .before .before .before .before in
+    let at-cube-count = at-if1 .before in
+    let at-holder-of = at-cube-count .before in
+    let s = at-holder-of .before .before in
     let z = s .args .sizes in
     let w = now (s .args .words) in
     let t = triOf (s .args .t) in
-    let k = c .before .before .before .before .before .before .holder-of in
-    let h : k .result < cubes z = omega (arith, c .before .before .before .before .if1 .left, c .before .before .before .before .before .cube-count .ensures) in
+    let k = at-holder-of .holder-of in
+    let h : k .result < cubes z = omega (arith, at-if1 .if1 .left, at-cube-count .cube-count .ensures) in
     let e : 7 * c .before .before .sample-no .result ≡ baseOf z (k .result) = ap (λ (n : ℕ). 7 * n) (c .before .before .sample-no .ensures .0 ∙ ap (sampleNo z) (c .before .before .before .cube-at .ensures .0)) in (
       record {
         place =

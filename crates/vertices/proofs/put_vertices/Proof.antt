@@ -82,9 +82,10 @@ put-anchor-requires c κs =
 
 next-sample-requires : tie.Need-next-sample-requires Inv-loop μ-loop
 next-sample-requires c κs =
-    let s = c .before .before .before .before .before .before .before in
+    let at-loop = c .before .before .before .before in
+    let s = at-loop .before .before .before in
     let f = s .pre .0 .0 in
-    (f .sized, anchor-in (L s) (f .sized) _ (s .pre .0 .1) _ (c .before .before .before .before .loop .i) (below (c .before .before .before)) (c .before .before .before .before .loop .inv .1))
+    (f .sized, anchor-in (L s) (f .sized) _ (s .pre .0 .1) _ (at-loop .loop .i) (below (c .before .before .before)) (at-loop .loop .inv .1))
 
 add-i : tie.Need-add-i Inv-loop μ-loop
 add-i c = omega (arith, c .before .before .before .before .before .before .sample-count .ensures)
@@ -94,17 +95,19 @@ loop-less c = omega arith
 
 loop-again : tie.Need-loop-again Inv-loop μ-loop
 loop-again c =
-    let s = c .before .before .before .before .before .before .before .before in
+    let past = c .before .before .before .before in
+    let at-loop = past .before in
+    let s = at-loop .before .before .before in
     let f = s .pre .0 .0 in
     let l = now (s .args .slots) in
-    let i = c .before .before .before .before .before .loop .i in
+    let i = at-loop .loop .i in
     let e : 7 * i + 7 ≡ 7 * (i + 1) = omega arith in (
       omega arith,
-      anchor-next (L s) (f .sized) _ (s .pre .0 .1) _ i (below (c .before .before .before .before)) (c .before .before .before .before .before .loop .inv .1) _ (c .next-sample .ensures),
+      anchor-next (L s) (f .sized) _ (s .pre .0 .1) _ i (below past) (at-loop .loop .inv .1) _ (c .next-sample .ensures),
       c .before .before .put-anchor .ensures .0
-          ∙ ((λ j. sets (c .before .before .before .before .before .loop .inv .2 j) (4 * (c .before .before .before .before .before .loop .inv .3 ∙ sym (zero-add (length (usedFrom l 0 (7 * i))))) j) (recordsFrom (L s) l (sym (zero-add (7 * i)) j) 7))
+          ∙ ((λ j. sets (at-loop .loop .inv .2 j) (4 * (at-loop .loop .inv .3 ∙ sym (zero-add (length (usedFrom l 0 (7 * i))))) j) (recordsFrom (L s) l (sym (zero-add (7 * i)) j) 7))
           ∙ (written-more (L s) l 0 0 (now (s .args .vertices)) (7 * i) 7 ∙ ap (λ (n : ℕ). writtenTo (L s) l 0 n 0 (now (s .args .vertices))) e)),
-      omega (arith, c .before .before .put-anchor .ensures .1, c .before .before .before .before .before .loop .inv .3, more (c .before .before .before .before)),
+      omega (arith, c .before .before .put-anchor .ensures .1, at-loop .loop .inv .3, more past),
     )
 
 same-length : tie.Need-same-length Inv-loop μ-loop

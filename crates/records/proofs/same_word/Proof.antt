@@ -1,0 +1,21 @@
+-- Two numbers are the same where their bits are. Assumes nothing.
+use mathlib.Core.Path.{ap, _∙_}
+use lib.IntN.{ℤ}
+use mir.Syntax.{w32}
+use mir.Facts.{toZ-ofZ}
+use Rattle.paper.specs.Check.{sameNumber}
+use Rattle.records.proofs.Numbers.{same-bits}
+use borrow.Author.Needs.{needs}
+use Rattle.records.proofs.same_word.Statement.{statement}
+use Rattle.records.proofs.same_word.Tie as tie
+
+record-word-requires : tie.Need-record-word-requires
+record-word-requires c κs = search needs
+
+returns : tie.Need-returns
+returns c =
+    let w = c .record-word in
+    same-bits (w .result) (c .before .before .args .b) (record { sfits = w .ok }) (c .before .before .fits .b) ∙ ap (λ (x : ℤ). sameNumber x (c .before .before .args .b)) (w .ensures)
+
+pub same-word-spec : {M : Type 1} → statement M
+same-word-spec = tie.close (tie.spec record-word-requires returns)
