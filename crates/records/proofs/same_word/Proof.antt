@@ -1,8 +1,6 @@
 -- Two numbers are the same where their bits are. Assumes nothing.
 use mathlib.Core.Path.{ap, _∙_}
 use lib.IntN.{ℤ}
-use mir.Syntax.{w32}
-use mir.Facts.{toZ-ofZ}
 use Rattle.paper.specs.Check.{sameNumber}
 use Rattle.records.proofs.Numbers.{same-bits}
 use borrow.Author.Needs.{needs}
