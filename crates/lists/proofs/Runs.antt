@@ -1,5 +1,5 @@
 -- What a loop over rising numbers makes: runs, those kept, the first, ranks. Assumes nothing.
-use mathlib.Core.Path.{_≡_, refl, sym, ap, _∙_}
+use mathlib.Core.Path.{_≡_, refl, sym, ap, subst, _∙_}
 use mathlib.Core.Logic.{_⊎_, inl, inr}
 use mathlib.Core.Bool.{Bool, true, false, cond, _||_, or-false}
 use mathlib.Core.List.{List, [], _∷_, _++_, map, append-assoc, append-nil, map-append}
@@ -40,6 +40,15 @@ module _ {A : Type 0} (p : A → Bool) where
       go false e = e
 
 -- one number more
+-- where none passes, nothing is kept
+pub keep-none : {A : Type 0} (p : A → Bool) (l : List A) → any p l ≡ false → keep p l ≡ []
+keep-none p [] e = refl
+keep-none p (x ∷ l) e = go (p x) e (λ q. keep-none p l q)
+  where
+    go : (b : Bool) → (b || any p l) ≡ false → (any p l ≡ false → keep p l ≡ []) → consIf b x (keep p l) ≡ []
+    go true e r = absurd (subst T e tt)
+    go false e r = r e
+
 pub keep-snoc : (p : ℕ → Bool) (n : ℕ) → keep p (range 0 (suc n)) ≡ keep p (range 0 n) ++ consIf (p n) n []
 keep-snoc p n = ap (keep p) (range-more n) ∙ keep-append p (range 0 n) (n ∷ [])
 

@@ -30,8 +30,8 @@ pub fn measure(
     ensures { λ r. ⌜ Measured (lattice sizes (now (samples .entry))) cube (now (words .entry)) (now (waiting .entry)) (now (slots .entry)) (now (words .exit)) (now (waiting .exit)) (now (slots .exit)) r ⌝ }
 {
     let visits = flood::flood(samples, sizes, cube, words, waiting);
-    let n = 7 * lattice::sample_count(sizes);
-    flood::clear_list(slots, n);
+    let n = lattice::sample_count(sizes);
+    flood::clear_list(slots, 7 * n);
     let triangles = survey::mark_all(words, sizes, slots);
     let vertices = survey::number_all(slots, n);
     Counts {

@@ -3,10 +3,10 @@ use paper::Place;
 use paper::Sizes;
 ghost use mathlib.Core.Path.{_≡_};
 ghost use mathlib.Core.List.{[], map, _++_};
-ghost use mathlib.Core.Bool.{cond};
+ghost use mathlib.Core.Bool.{cond, not};
 ghost use Prim.Native.Nat.{_+_, _*_, _≤_, _<_};
-ghost use lib.ListN.{length, set, drop};
-ghost use Rattle.lists.specs.Lists.{range, consIf};
+ghost use lib.ListN.{length, getD, set, drop};
+ghost use Rattle.lists.specs.Lists.{range, consIf, any};
 ghost use Rattle.paper.specs.Lattice.{samples, cubes};
 ghost use Rattle.paper.specs.Within.{Sized};
 ghost use Rattle.tetra.specs.Cut.{tetCorners};
@@ -102,6 +102,24 @@ pub fn mark_all(words: &[u16], sizes: Sizes, slots: &mut [u32]) -> usize
     count
 }
 
+fn slot(slots: &[u32], e: usize) -> usize
+    requires { ⌜ e < length (now slots) ⌝ }
+    ensures { λ r. ⌜ (r ≡ getD (now (slots .entry)) e 0) × (r < 4294967296) ⌝ }
+{
+    slots[e] as usize
+}
+
+// None of the seven slots of an anchor is used; base is 7 × its number.
+pub fn idle(slots: &[u32], base: usize) -> bool
+    requires { ⌜ base + 7 ≤ length (now slots) ⌝ }
+    ensures { λ r. ⌜ r ≡ not (any (used (now (slots .entry))) (range base 7)) ⌝ }
+{
+    let a = slot(slots, base) + slot(slots, base + 1) + slot(slots, base + 2);
+    let b = slot(slots, base + 3) + slot(slots, base + 4);
+    let c = slot(slots, base + 5) + slot(slots, base + 6);
+    a + b + c == 0
+}
+
 // Slot e gets number v + 1, where it is used; how many numbers are given now is returned.
 fn number_slot(slots: &mut [u32], e: usize, v: usize) -> usize
     requires { ⌜ (e < length (now slots)) × (v < 4000000) ⌝ }
@@ -114,16 +132,33 @@ fn number_slot(slots: &mut [u32], e: usize, v: usize) -> usize
     v + 1
 }
 
-// The used slots among the first n are numbered from 1; how many there are is returned.
+// How many kinds of an anchor to look at: none where it has no used slot, else all.
+fn kinds_of(slots: &[u32], base: usize) -> usize
+    requires { ⌜ base + 7 ≤ length (now slots) ⌝ }
+    ensures { λ r. ⌜ r ≡ cond (any (used (now (slots .entry))) (range base 7)) 7 0 ⌝ }
+{
+    if idle(slots, base) {
+        return 0;
+    }
+    7
+}
+
+// The used slots of the first n anchors are numbered from 1; how many there are is returned. Most anchors have none.
 pub fn number_all(slots: &mut [u32], n: usize) -> usize
-    requires { ⌜ (n ≤ length (now slots)) × (n < 4000000) ⌝ }
-    ensures { λ r. ⌜ (now (slots .exit) ≡ map (numberIn (now (slots .entry))) (range 0 n) ++ drop n (now (slots .entry))) × (r ≡ length (usedOf (now (slots .entry)) n)) ⌝ }
+    requires { ⌜ (7 * n ≤ length (now slots)) × (n < 500000) ⌝ }
+    ensures { λ r. ⌜ (now (slots .exit) ≡ map (numberIn (now (slots .entry))) (range 0 (7 * n)) ++ drop (7 * n) (now (slots .entry))) × (r ≡ length (usedOf (now (slots .entry)) (7 * n))) ⌝ }
 {
     let mut v = 0;
-    let mut e = 0;
-    while e < n {
-        v = number_slot(slots, e, v);
-        e += 1;
+    let mut i = 0;
+    while i < n {
+        let base = 7 * i;
+        let kinds = kinds_of(slots, base);
+        let mut kind = 0;
+        while kind < kinds {
+            v = number_slot(slots, base + kind, v);
+            kind += 1;
+        }
+        i += 1;
     }
     v
 }

@@ -1,6 +1,6 @@
 -- Records one behind the other, anchor by anchor. Assumes nothing.
 use mathlib.Core.Path.{_≡_, refl, sym, ap, subst, _∙_}
-use mathlib.Core.Bool.{Bool, not}
+use mathlib.Core.Bool.{Bool, false, not}
 use mathlib.Core.List.{List, [], _∷_, _++_, append-nil}
 use Prim.Native.Nat.{ℕ, _+_, _*_, _/_, _%_, _≤_, _<_}
 use native.Mathlib.Omega.{arith}
@@ -10,9 +10,9 @@ use lib.ListN.{length, getD, length-append}
 use Rattle.lists.proofs.Member.{eq→T}
 use lib.Seq.{sets, length-sets}
 use borrow.Author.Tests.{eq-eqb, ne-eqb}
-use Rattle.lists.specs.Lists.{range, consIf, keep, each, over}
+use Rattle.lists.specs.Lists.{range, consIf, keep, any, each, over}
 use Rattle.lists.proofs.Every.{each-length}
-use Rattle.lists.proofs.Runs.{range-join, keep-append}
+use Rattle.lists.proofs.Runs.{range-join, keep-append, keep-none}
 use Rattle.paper.specs.declared.Sizes.{Sizes}
 use Rattle.paper.specs.declared.Place.{Place}
 use Rattle.paper.specs.Lattice.{Lattice, place, samples, sampleNo, sampleAt}
@@ -90,6 +90,17 @@ module _ (L : Lattice) (slots : List ℕ) (e : ℕ) where
   pub one-written : (getD slots e 0 ≡ 0 → ⊥) → recordsFrom L slots e 1 ≡ vertexRecord L e
   unfolding recordsFrom
   one-written q = ap (each (vertexRecord L)) (one-used q) ∙ append-nil (vertexRecord L e)
+
+-- ── an anchor without a vertex ──
+
+module _ (L : Lattice) (slots : List ℕ) (base n : ℕ) (e : any (used slots) (range base n) ≡ false) where
+  pub no-used : usedFrom slots base n ≡ []
+  unfolding usedFrom
+  no-used = keep-none (used slots) (range base n) e
+
+  pub no-records : recordsFrom L slots base n ≡ []
+  unfolding recordsFrom
+  no-records = ap (each (vertexRecord L)) no-used
 
 -- ── anchors one after the other ──
 

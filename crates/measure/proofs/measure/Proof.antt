@@ -18,8 +18,8 @@ flood-requires c κs = search needs
 sample-count-requires : tie.Need-sample-count-requires
 sample-count-requires c κs = search needs
 
-mul-n : tie.Need-mul-n
-mul-n c = search needs
+mul-clear-list : tie.Need-mul-clear-list
+mul-clear-list c = search needs
 
 clear-list-requires : tie.Need-clear-list-requires
 clear-list-requires c κs = search needs
@@ -68,7 +68,7 @@ measure-spec =
     (tie.spec
     flood-requires
     sample-count-requires
-    mul-n
+    mul-clear-list
     clear-list-requires
     mark-all-requires
     number-all-requires
