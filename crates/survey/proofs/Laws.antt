@@ -111,6 +111,10 @@ pub idle-is : (l : List ℕ) (b s : ℕ) → s ≡ sum (λ k. getD l k 0) (range
 unfolding used
 idle-is l b s e = ap (λ (n : ℕ). eqb n 0) e ∙ sum-idle (λ k. getD l k 0) (range b 7)
 
+pub seven-at-most : (b : Bool) → cond b 7 0 ≤ 7
+seven-at-most true = omega arith
+seven-at-most false = omega arith
+
 -- ── numbers: the slots below e have theirs, the others are as they were ──
 
 unfoldable pub numbered : List ℕ → ℕ → List ℕ

@@ -109,8 +109,8 @@ fn slot(slots: &[u32], e: usize) -> usize
     slots[e] as usize
 }
 
-// None of the seven slots of an anchor is used; base is 7 × its number.
-pub fn idle(slots: &[u32], base: usize) -> bool
+// None of the seven slots of an anchor is used.
+fn idle(slots: &[u32], base: usize) -> bool
     requires { ⌜ base + 7 ≤ length (now slots) ⌝ }
     ensures { λ r. ⌜ r ≡ not (any (used (now (slots .entry))) (range base 7)) ⌝ }
 {
@@ -132,8 +132,8 @@ fn number_slot(slots: &mut [u32], e: usize, v: usize) -> usize
     v + 1
 }
 
-// How many kinds of an anchor to look at: none where it has no used slot, else all.
-fn kinds_of(slots: &[u32], base: usize) -> usize
+// How many kinds of an anchor to look at: none where it has no used slot, as most have none, else all seven; base is 7 × its number.
+pub fn kinds_of(slots: &[u32], base: usize) -> usize
     requires { ⌜ base + 7 ≤ length (now slots) ⌝ }
     ensures { λ r. ⌜ r ≡ cond (any (used (now (slots .entry))) (range base 7)) 7 0 ⌝ }
 {
@@ -143,7 +143,7 @@ fn kinds_of(slots: &[u32], base: usize) -> usize
     7
 }
 
-// The used slots of the first n anchors are numbered from 1; how many there are is returned. Most anchors have none.
+// The used slots of the first n anchors are numbered from 1; how many there are is returned.
 pub fn number_all(slots: &mut [u32], n: usize) -> usize
     requires { ⌜ (7 * n ≤ length (now slots)) × (n < 500000) ⌝ }
     ensures { λ r. ⌜ (now (slots .exit) ≡ map (numberIn (now (slots .entry))) (range 0 (7 * n)) ++ drop (7 * n) (now (slots .entry))) × (r ≡ length (usedOf (now (slots .entry)) (7 * n))) ⌝ }

@@ -1,6 +1,6 @@
 -- Records one behind the other, anchor by anchor. Assumes nothing.
 use mathlib.Core.Path.{_≡_, refl, sym, ap, subst, _∙_}
-use mathlib.Core.Bool.{Bool, false, not}
+use mathlib.Core.Bool.{Bool, true, false, cond, not}
 use mathlib.Core.List.{List, [], _∷_, _++_, append-nil}
 use Prim.Native.Nat.{ℕ, _+_, _*_, _/_, _%_, _≤_, _<_}
 use native.Mathlib.Omega.{arith}
@@ -91,16 +91,16 @@ module _ (L : Lattice) (slots : List ℕ) (e : ℕ) where
   unfolding recordsFrom
   one-written q = ap (each (vertexRecord L)) (one-used q) ∙ append-nil (vertexRecord L e)
 
--- ── an anchor without a vertex ──
+-- ── an anchor ──
 
-module _ (L : Lattice) (slots : List ℕ) (base n : ℕ) (e : any (used slots) (range base n) ≡ false) where
-  pub no-used : usedFrom slots base n ≡ []
-  unfolding usedFrom
-  no-used = keep-none (used slots) (range base n) e
-
-  pub no-records : recordsFrom L slots base n ≡ []
-  unfolding recordsFrom
-  no-records = ap (each (vertexRecord L)) no-used
+-- the kinds that are looked at have all of its used slots
+pub all-kinds : (slots : List ℕ) (base kinds : ℕ) → kinds ≡ cond (any (used slots) (range base 7)) 7 0 → usedFrom slots base kinds ≡ usedFrom slots base 7
+unfolding usedFrom
+all-kinds slots base kinds = go (any (used slots) (range base 7)) refl
+  where
+    go : (b : Bool) → any (used slots) (range base 7) ≡ b → kinds ≡ cond b 7 0 → keep (used slots) (range base kinds) ≡ keep (used slots) (range base 7)
+    go true e k = ap (λ (n : ℕ). keep (used slots) (range base n)) k
+    go false e k = ap (λ (n : ℕ). keep (used slots) (range base n)) k ∙ sym (keep-none (used slots) (range base 7) e)
 
 -- ── anchors one after the other ──
 

@@ -36,31 +36,7 @@ fn put_kind(
     at + 1
 }
 
-// The vertices at the anchor p, kind by kind, are written from place `at` on; the next place is returned.
-fn put_kinds(
-    samples: &[i16],
-    sizes: Sizes,
-    slots: &[u32],
-    vertices: &mut [i32],
-    p: Place,
-    base: usize,
-    at: usize,
-) -> usize
-    requires { ⌜ Full (lattice sizes (now samples)) × SampleIn sizes p × (base ≡ 7 * sampleNo sizes p) ⌝ }
-    requires { ⌜ AnchorCrosses (lattice sizes (now samples)) (now slots) p base × (base + 7 ≤ length (now slots)) ⌝ }
-    requires { ⌜ 4 * (at + length (usedFrom (now slots) base 7)) ≤ length (now vertices) ⌝ }
-    ensures { λ r. ⌜ (now (vertices .exit) ≡ sets (now (vertices .entry)) (4 * at) (recordsFrom (lattice sizes (now (samples .entry))) (now (slots .entry)) base 7)) × (r ≡ at + length (usedFrom (now (slots .entry)) base 7)) ⌝ }
-{
-    let mut next = at;
-    let mut kind = 0;
-    while kind < 7 {
-        next = put_kind(samples, sizes, slots, vertices, p, base, kind, next);
-        kind += 1;
-    }
-    next
-}
-
-// The same, where most anchors have no vertex.
+// The vertices at the anchor p are written from place `at` on; the next place is returned.
 fn put_anchor(
     samples: &[i16],
     sizes: Sizes,
@@ -75,10 +51,14 @@ fn put_anchor(
     requires { ⌜ 4 * (at + length (usedFrom (now slots) base 7)) ≤ length (now vertices) ⌝ }
     ensures { λ r. ⌜ (now (vertices .exit) ≡ sets (now (vertices .entry)) (4 * at) (recordsFrom (lattice sizes (now (samples .entry))) (now (slots .entry)) base 7)) × (r ≡ at + length (usedFrom (now (slots .entry)) base 7)) ⌝ }
 {
-    if survey::idle(slots, base) {
-        return at;
+    let kinds = survey::kinds_of(slots, base);
+    let mut next = at;
+    let mut kind = 0;
+    while kind < kinds {
+        next = put_kind(samples, sizes, slots, vertices, p, base, kind, next);
+        kind += 1;
     }
-    put_kinds(samples, sizes, slots, vertices, p, base, at)
+    next
 }
 
 // The records of all used slots are written to the front of a vertex slice.

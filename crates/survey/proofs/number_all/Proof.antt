@@ -8,7 +8,7 @@ use lib.ListN.{length, set}
 use denote.Ref.{now}
 use Rattle.lists.specs.Lists.{range, any}
 use Rattle.survey.specs.Marks.{used, usedOf}
-use Rattle.survey.proofs.Laws.{numbered, numbered-none, next-used, numbered-more, used-more, used-le, anchor-settled}
+use Rattle.survey.proofs.Laws.{numbered, numbered-none, next-used, numbered-more, used-more, used-le, seven-at-most, anchor-settled}
 use Rattle.survey.proofs.number_all.Statement.{statement}
 use Rattle.survey.proofs.number_all.Tie as tie
 
@@ -29,14 +29,10 @@ Inv-loop slots₀ n v₀ i₀ slots v i =
 abbrev μ-loop : tie.MeasureT-loop
 μ-loop slots₀ n v₀ i₀ slots v i = n - i
 
-at-most : (b : Bool) → cond b 7 0 ≤ 7
-at-most true = omega arith
-at-most false = omega arith
-
 seven : (c : tie.After-kinds-of Inv-loop2 μ-loop2 Inv-loop μ-loop) → c .kinds-of .result ≤ 7
 seven c =
     let l = c .before .before .before .loop in
-    omega (arith, c .kinds-of .ensures, at-most (any (used (l .slots)) (range (7 * l .i) 7)))
+    omega (arith, c .kinds-of .ensures, seven-at-most (any (used (l .slots)) (range (7 * l .i) 7)))
 
 loop-holds : tie.Need-loop-holds Inv-loop2 μ-loop2 Inv-loop μ-loop
 unfolding usedOf
