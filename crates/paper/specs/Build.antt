@@ -86,12 +86,14 @@ buildNumber L s l =
 abbrev pub counts : ℕ → Bool
 counts n = isIn (0 ∷ 6 ∷ 7 ∷ []) n
 
+-- an answer with the true counts, and one with zeros
 abbrev pub counted : ℕ → Sheet → Built
 counted n S = record { number = n; vertices = length (S .edges); triangles = length (S .triangles); cubes = S .visits }
 
 abbrev pub uncounted : ℕ → Built
 uncounted n = record { number = n; vertices = 0; triangles = 0; cubes = 0 }
 
+-- "Building returns": the number, and the counts by it
 unfoldable pub built : Lattice → Start → Lent → Built
 built L s l =
     let n = buildNumber L s l in
@@ -102,6 +104,7 @@ built L s l =
 abbrev pub clears : ℕ → Bool
 clears n = isIn (0 ∷ 6 ∷ 7 ∷ 17 ∷ 18 ∷ 19 ∷ []) n
 
+-- a work slice after an answer; n of it are needed
 unfoldable pub workAfter : ℕ → ℕ → List ℕ → List ℕ
 workAfter number n old = cond (clears number) (cleared n old) old
 
