@@ -1,0 +1,142 @@
+//! A sheet as a picture. Sums, products, divisions and square roots of f64 are the same on every machine, and nothing else
+//! is used: the same sheet gives the same picture.
+
+mod canvas;
+mod view;
+
+use crate::marks::Mark;
+use crate::sheet::Sheet;
+use canvas::{Canvas, Colour};
+use view::{Point, View};
+
+/// Width and height where nothing else is asked for.
+pub const USUAL: usize = 640;
+
+/// Each pixel is the mean of so many by so many.
+const FINE: usize = 2;
+
+const PAPER: Colour = [255.0, 255.0, 255.0];
+const OUTLINE: Colour = [196.0, 200.0, 205.0];
+const LETTER: Colour = [110.0, 115.0, 120.0];
+const FROM_AIR: Colour = [120.0, 158.0, 205.0];
+const FROM_SOLID: Colour = [214.0, 190.0, 140.0];
+const WRONG: Colour = [224.0, 32.0, 32.0];
+const DISPLACED: Colour = [240.0, 150.0, 20.0];
+
+/// The picture as a PNG file, square and so many pixels wide.
+pub fn png(sheet: &Sheet, marks: Option<&[Mark]>, size: usize) -> Vec<u8> {
+    encode(&draw(sheet, marks, size), size)
+}
+
+/// The picture as rows of red, green and blue.
+fn draw(sheet: &Sheet, marks: Option<&[Mark]>, size: usize) -> Vec<u8> {
+    let mut canvas = Canvas::new(size * FINE, PAPER);
+    let view = View::new(sheet.sizes, size * FINE);
+    outline(&mut canvas, &view);
+    let points: Vec<Point> = sheet.records().map(|[_, x, y, z]| view.seen([x, y, z])).collect();
+    let mark = |at: usize| marks.and_then(|marks| marks.get(at)).copied().unwrap_or(Mark::Right);
+    for (at, corners) in sheet.corners().enumerate() {
+        let corners = corners.map(|vertex| points[vertex as usize]);
+        canvas.fill(corners, shaded(corners, mark(at)));
+    }
+    for (at, corners) in sheet.corners().enumerate() {
+        if mark(at) == Mark::Triangle {
+            canvas.shine(corners.map(|vertex| points[vertex as usize]), WRONG);
+        }
+    }
+    canvas.reduced(FINE)
+}
+
+/// A triangle's colour: by its mark and the side it is seen from, darker the less it faces the light.
+fn shaded(corners: [Point; 3], mark: Mark) -> Colour {
+    let (light, from_air) = view::lit(corners);
+    let colour = match (mark, from_air) {
+        (Mark::Triangle, _) => WRONG,
+        (Mark::Vertex, _) => DISPLACED,
+        (Mark::Right, true) => FROM_AIR,
+        (Mark::Right, false) => FROM_SOLID,
+    };
+    let bright = 0.4 + 0.6 * light;
+    colour.map(|part| part * bright)
+}
+
+/// The lattice's twelve outer lines, and the letters of its axes.
+fn outline(canvas: &mut Canvas, view: &View) {
+    let corner = |n: usize| view.corner([n & 1, n >> 1 & 1, n >> 2]);
+    for n in 0..8 {
+        for bit in [1, 2, 4] {
+            if n & bit == 0 {
+                canvas.line(corner(n), corner(n | bit), OUTLINE);
+            }
+        }
+    }
+    let strokes: [(usize, usize, [f64; 2], &[[f64; 4]]); 3] = [
+        (2, 3, [-0.7, 1.0], &[[0.0, 0.0, 1.0, 1.0], [1.0, 0.0, 0.0, 1.0]]),
+        (1, 3, [0.7, 1.0], &[[0.0, 0.0, 0.5, 0.5], [1.0, 0.0, 0.0, 1.0]]),
+        (2, 6, [-1.2, 0.0], &[[0.0, 0.0, 1.0, 0.0], [1.0, 0.0, 0.0, 1.0], [0.0, 1.0, 1.0, 1.0]]),
+    ];
+    let unit = view.letter();
+    for (from, to, away, lines) in strokes {
+        let (a, b) = (corner(from), corner(to));
+        let left = (a.x + b.x) / 2.0 + 2.0 * unit * away[0] - unit / 2.0;
+        let top = (a.y + b.y) / 2.0 + 2.0 * unit * away[1] - unit / 2.0;
+        let at = |x: f64, y: f64| Point { x: left + unit * x, y: top + unit * y, near: 0.0 };
+        for [x0, y0, x1, y1] in lines {
+            canvas.line(at(*x0, *y0), at(*x1, *y1), LETTER);
+        }
+    }
+}
+
+fn encode(rows: &[u8], size: usize) -> Vec<u8> {
+    let mut file = Vec::new();
+    let mut encoder = png::Encoder::new(&mut file, size as u32, size as u32);
+    encoder.set_color(png::ColorType::Rgb);
+    encoder.set_depth(png::BitDepth::Eight);
+    let written = encoder.write_header().and_then(|mut writer| writer.write_image_data(rows));
+    // a vector takes all bytes, and the rows are as long as the sizes say
+    written.expect("a picture in memory is written");
+    file
+}
+
+#[cfg(test)]
+mod tests {
+    use super::*;
+    use crate::abi::Sizes;
+
+    /// A triangle before another, seen from the corner.
+    fn pair() -> Sheet {
+        let sizes = Sizes { nx: 3, ny: 3, nz: 3 };
+        let near = [[131_072, 0, 65_536], [0, 131_072, 65_536], [131_072, 131_072, 0]];
+        let far = near.map(|at| at.map(|v: i32| v - 65_536));
+        let vertices = near.iter().chain(&far).flat_map(|[x, y, z]| [0, *x, *y, *z]).collect();
+        Sheet { sizes, vertices, triangles: vec![0, 1, 2, 3, 4, 5] }
+    }
+
+    fn reddish(rows: &[u8]) -> usize {
+        let parts = |pixel: &[u8]| [pixel[0], pixel[1], pixel[2]].map(i32::from);
+        rows.chunks_exact(3).map(parts).filter(|[r, g, b]| *r > 90 && r - g > 60 && r - b > 60).count()
+    }
+
+    #[test]
+    fn marked_triangles_are_red_also_behind_others() {
+        let sheet = pair();
+        let plain = draw(&sheet, None, 100);
+        let near = draw(&sheet, Some(&[Mark::Triangle, Mark::Right]), 100);
+        let far = draw(&sheet, Some(&[Mark::Right, Mark::Triangle]), 100);
+        assert_eq!(reddish(&plain), 0);
+        assert!(reddish(&near) > 300 && reddish(&far) > 300);
+        assert!(plain != near && near != far);
+    }
+
+    #[test]
+    fn a_picture_is_the_same_each_time_and_takes_any_numbers() {
+        let sheet = pair();
+        assert_eq!(png(&sheet, None, 80), png(&sheet, None, 80));
+        let wild = Sheet {
+            vertices: vec![0, i32::MAX, i32::MIN, 0, 1, 0, 0, 0, 2, 7, 7, i32::MAX],
+            triangles: vec![0, 1, 2, 1, 1, 1],
+            ..sheet
+        };
+        assert!(png(&wild, Some(&[Mark::Triangle; 2]), 64).starts_with(b"\x89PNG"));
+    }
+}
