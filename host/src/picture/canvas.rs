@@ -27,21 +27,39 @@ impl Canvas {
             return;
         }
         let last = self.size as f64 - 1.0;
-        let span = |p: f64, q: f64, r: f64| {
-            let (low, high) = (p.min(q).min(r) - 0.5, p.max(q).max(r) - 0.5);
-            (low.ceil().clamp(0.0, last) as usize, high.floor().clamp(0.0, last) as usize)
+        let top = (a.y.min(b.y).min(c.y) - 0.5).ceil().clamp(0.0, last);
+        let bottom = (a.y.max(b.y).max(c.y) - 0.5).floor().clamp(0.0, last);
+        // the share of each corner grows evenly from pixel to pixel: its value at x = 0 in a row, and its step
+        let share = |p: Point, q: Point, y: f64| {
+            let (dx, dy) = (q.x - p.x, q.y - p.y);
+            ((dx * (y - p.y) + dy * p.x) / area, -dy / area)
         };
-        let ((left, right), (top, bottom)) = (span(a.x, b.x, c.x), span(a.y, b.y, c.y));
-        for row in top..=bottom {
-            for column in left..=right {
-                let (x, y) = (column as f64 + 0.5, row as f64 + 0.5);
-                // the shares of the three corners at this place
-                let of_b = ((x - a.x) * (c.y - a.y) - (y - a.y) * (c.x - a.x)) / area;
-                let of_c = ((b.x - a.x) * (y - a.y) - (b.y - a.y) * (x - a.x)) / area;
-                let of_a = 1.0 - of_b - of_c;
-                if of_a >= 0.0 && of_b >= 0.0 && of_c >= 0.0 {
-                    pixel(self, row * self.size + column, of_a * a.near + of_b * b.near + of_c * c.near);
+        for row in top as usize..=bottom as usize {
+            let y = row as f64 + 0.5;
+            let shares = [share(b, c, y), share(c, a, y), share(a, b, y)];
+            let (mut left, mut right) = (0.5, last + 0.5);
+            for (at_zero, step) in shares {
+                if step > 0.0 {
+                    left = f64::max(left, -at_zero / step);
+                } else if step < 0.0 {
+                    right = f64::min(right, -at_zero / step);
+                } else if at_zero < 0.0 {
+                    right = -1.0;
                 }
+            }
+            if left > right {
+                continue;
+            }
+            let near_at = |x: f64| {
+                let of = shares.map(|(at_zero, step)| at_zero + step * x);
+                of[0] * a.near + of[1] * b.near + of[2] * c.near
+            };
+            let (first, end) = ((left - 0.5).ceil() as usize, (right - 0.5).floor());
+            let (zero, one) = (near_at(0.5), near_at(1.5) - near_at(0.5));
+            let mut column = first;
+            while column as f64 <= end {
+                pixel(self, row * self.size + column, zero + one * column as f64);
+                column += 1;
             }
         }
     }

@@ -7,10 +7,13 @@ mod view;
 use crate::marks::Mark;
 use crate::sheet::Sheet;
 use canvas::{Canvas, Colour};
-use view::{Point, View};
+use view::{Point, Space, View};
 
 /// Width and height where nothing else is asked for.
 pub const USUAL: usize = 640;
+
+/// Hidden wrong triangles that shine through.
+const MOST_SHINING: usize = 4000;
 
 /// Each pixel is the mean of so many by so many.
 const FINE: usize = 2;
@@ -30,21 +33,37 @@ pub fn png(sheet: &Sheet, marks: Option<&[Mark]>, size: usize) -> Vec<u8> {
 
 /// The picture as rows of red, green and blue.
 fn draw(sheet: &Sheet, marks: Option<&[Mark]>, size: usize) -> Vec<u8> {
+    let fine = (size * FINE) as f64;
     let mut canvas = Canvas::new(size * FINE, PAPER);
-    let view = View::new(sheet.sizes, size * FINE);
-    outline(&mut canvas, &view);
+    let view = frame(sheet, fine, &mut canvas);
     let points: Vec<Point> = sheet.records().map(|[_, x, y, z]| view.seen([x, y, z])).collect();
     let mark = |at: usize| marks.and_then(|marks| marks.get(at)).copied().unwrap_or(Mark::Right);
     for (at, corners) in sheet.corners().enumerate() {
         let corners = corners.map(|vertex| points[vertex as usize]);
         canvas.fill(corners, shaded(corners, mark(at)));
     }
-    for (at, corners) in sheet.corners().enumerate() {
-        if mark(at) == Mark::Triangle {
-            canvas.shine(corners.map(|vertex| points[vertex as usize]), WRONG);
-        }
+    let wrong = sheet.corners().enumerate().filter(|(at, _)| mark(*at) == Mark::Triangle);
+    // where there are more, the foremost of them hide whatever is behind
+    for (_, corners) in wrong.take(MOST_SHINING) {
+        canvas.shine(corners.map(|vertex| points[vertex as usize]), WRONG);
     }
     canvas.reduced(FINE)
+}
+
+/// The view that fits a sheet, with the outline of what is shown and the letters of its axes. Where that is a small part of
+/// the lattice, a little lattice in the corner shows which.
+fn frame(sheet: &Sheet, fine: f64, canvas: &mut Canvas) -> View {
+    let (all, own) = (Space::lattice(sheet), Space::sheet(sheet));
+    let small = own.longest() < 0.6 * all.longest();
+    let view = View::new(if small { own } else { all }, [fine / 2.0; 2], 0.84 * fine);
+    outline(canvas, &view, if small { &own } else { &all }, OUTLINE);
+    letters(canvas, &view, fine / 50.0);
+    if small {
+        let little = View::new(all, [0.88 * fine, 0.12 * fine], 0.2 * fine);
+        outline(canvas, &little, &all, OUTLINE);
+        outline(canvas, &little, &own, LETTER);
+    }
+    view
 }
 
 /// A triangle's colour: by its mark and the side it is seen from, darker the less it faces the light.
@@ -60,28 +79,23 @@ fn shaded(corners: [Point; 3], mark: Mark) -> Colour {
     colour.map(|part| part * bright)
 }
 
-/// The lattice's twelve outer lines, and the letters of its axes.
-fn outline(canvas: &mut Canvas, view: &View) {
-    let corner = |n: usize| view.corner([n & 1, n >> 1 & 1, n >> 2]);
-    for n in 0..8 {
-        for bit in [1, 2, 4] {
-            if n & bit == 0 {
-                canvas.line(corner(n), corner(n | bit), OUTLINE);
-            }
-        }
+fn outline(canvas: &mut Canvas, view: &View, of: &Space, colour: Colour) {
+    for [from, to] in view.lines(of) {
+        canvas.line(from, to, colour);
     }
-    let strokes: [(usize, usize, [f64; 2], &[[f64; 4]]); 3] = [
-        (2, 3, [-0.7, 1.0], &[[0.0, 0.0, 1.0, 1.0], [1.0, 0.0, 0.0, 1.0]]),
-        (1, 3, [0.7, 1.0], &[[0.0, 0.0, 0.5, 0.5], [1.0, 0.0, 0.0, 1.0]]),
-        (2, 6, [-1.2, 0.0], &[[0.0, 0.0, 1.0, 0.0], [1.0, 0.0, 0.0, 1.0], [0.0, 1.0, 1.0, 1.0]]),
+}
+
+/// The letters x, y and z, of strokes.
+fn letters(canvas: &mut Canvas, view: &View, unit: f64) {
+    let shapes: [([f64; 2], &[[f64; 4]]); 3] = [
+        ([-0.7, 1.0], &[[0.0, 0.0, 1.0, 1.0], [1.0, 0.0, 0.0, 1.0]]),
+        ([0.7, 1.0], &[[0.0, 0.0, 0.5, 0.5], [1.0, 0.0, 0.0, 1.0]]),
+        ([-1.2, 0.0], &[[0.0, 0.0, 1.0, 0.0], [1.0, 0.0, 0.0, 1.0], [0.0, 1.0, 1.0, 1.0]]),
     ];
-    let unit = view.letter();
-    for (from, to, away, lines) in strokes {
-        let (a, b) = (corner(from), corner(to));
-        let left = (a.x + b.x) / 2.0 + 2.0 * unit * away[0] - unit / 2.0;
-        let top = (a.y + b.y) / 2.0 + 2.0 * unit * away[1] - unit / 2.0;
+    for (beside, (away, strokes)) in view.beside().into_iter().zip(shapes) {
+        let (left, top) = (beside.x + unit * (2.0 * away[0] - 0.5), beside.y + unit * (2.0 * away[1] - 0.5));
         let at = |x: f64, y: f64| Point { x: left + unit * x, y: top + unit * y, near: 0.0 };
-        for [x0, y0, x1, y1] in lines {
+        for [x0, y0, x1, y1] in strokes {
             canvas.line(at(*x0, *y0), at(*x1, *y1), LETTER);
         }
     }
