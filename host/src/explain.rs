@@ -41,30 +41,37 @@ fn trailer(bytes: &[u8]) -> Option<Trailer> {
     Some(Trailer { vertices: word(4), triangles: word(12), sizes, mark: half(22) })
 }
 
-/// The refusal in full: number, values, meaning, what to do.
+/// The refusal in full: number, what was found, what to do.
 pub fn sentence(verdict: Verdict, about: &About) -> String {
-    let Verdict { number, place } = verdict;
-    let Some(row) = numbers::number(number) else {
-        return format!("refused {number}: {}.", numbers::meaning(number));
-    };
-    let what = values(verdict, about).unwrap_or_else(|| row.means.to_string());
-    let first = row.place.map_or(String::new(), |counts| format!(" (the first is {counts} {place}, counted from 0)"));
-    format!("refused {number}: {what}{first}. {}", row.remedy)
+    let remedy = numbers::number(verdict.number).map_or("", |row| row.remedy);
+    format!("refused {}: {}. {remedy}", verdict.number, found(verdict, about)).trim_end().to_string()
 }
 
-/// What was found, by name and value.
+/// What was found, by names and values where they are known.
+pub fn found(verdict: Verdict, about: &About) -> String {
+    let Verdict { number, place } = verdict;
+    values(verdict, about).unwrap_or_else(|| match numbers::number(number).and_then(|row| row.place) {
+        Some(counts) => format!("{} (the first is {counts} {place}, counted from 0)", numbers::meaning(number)),
+        None => numbers::meaning(number).to_string(),
+    })
+}
+
+/// The values behind a refusal.
 fn values(Verdict { number, place }: Verdict, about: &About) -> Option<String> {
     match number {
         1 => axes(about),
         2 => about.volume.map(|(path, volume)| samples(path, volume)),
         4 => {
-            let (_, volume) = about.volume?;
-            let Sizes { nx, ny, nz } = volume.sizes;
-            let last = place_text(Place { x: nx - 2, y: ny - 2, z: nz - 2 });
-            let start = place_text(about.start?);
-            Some(format!("start {start} is no cube of {} samples, the last is {last}", sizes_text(volume.sizes)))
+            let (path, volume) = about.volume?;
+            let (Sizes { nx, ny, nz }, start) = (volume.sizes, place_text(about.start?));
+            let (sizes, last) = (sizes_text(volume.sizes), place_text(Place { x: nx - 2, y: ny - 2, z: nz - 2 }));
+            Some(format!(
+                "start {start} is no cube of {}, whose {sizes} samples have cubes 0,0,0 to {last}",
+                shown(path)
+            ))
         }
         5 => about.volume.map(|(path, volume)| not_crossed(path, volume, about.start)),
+        15 => about.sheet.and_then(|(path, bytes)| stray(place, path, bytes)),
         11..=16 => about.sheet.and_then(|(path, bytes)| layout(number, path, bytes, about)),
         17 | 18 => about.sheet.and_then(|(path, bytes)| record(number, place, path, bytes)),
         19 => {
@@ -141,18 +148,31 @@ fn layout(number: usize, path: &Path, bytes: &[u8], about: &About) -> Option<Str
     }
 }
 
+/// Refusal 15: the index that is too large.
+fn stray(place: usize, path: &Path, bytes: &[u8]) -> Option<String> {
+    let vertices = trailer(bytes)?.vertices;
+    let at = 16 * usize::try_from(vertices).ok()? + 12 * place;
+    let index = |k: usize| {
+        bytes.get(at + 4 * k..at + 4 * k + 4).map(|word| u32::from_le_bytes([word[0], word[1], word[2], word[3]]))
+    };
+    let large = [index(0)?, index(1)?, index(2)?].into_iter().find(|&index| u64::from(index) >= vertices)?;
+    let name = shown(path);
+    Some(format!("triangle {place} of {name}, counted from 0, names vertex {large}, where there are {vertices}"))
+}
+
+/// Refusals 17 and 18: the record or triangle that is wrong.
 fn record(number: usize, place: usize, path: &Path, bytes: &[u8]) -> Option<String> {
     let sheet = Sheet::read(bytes).ok()?;
     let what = numbers::meaning(number).replace("the sheet file", &shown(path));
     let found = match number {
         17 => {
             let [edge, x, y, z] = sheet.record(place.try_into().ok()?);
-            format!("record {place} says edge {edge} at {x} {y} {z}")
+            format!("vertex record {place}, counted from 0, says edge {edge} at {x} {y} {z}")
         }
         _ => {
             let [a, b, c] = sheet.corners().nth(place)?;
             let [e, f, g] = sheet.by_edges().nth(place)?;
-            format!("triangle {place} joins vertices {a} {b} {c}, on edges {e} {f} {g}")
+            format!("triangle {place}, counted from 0, joins vertices {a} {b} {c}, on edges {e} {f} {g}")
         }
     };
     Some(format!("{what}: {found}"))

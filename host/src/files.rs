@@ -63,9 +63,15 @@ pub fn read_named_sheet(path: &Path, streams: &mut Streams) -> io::Result<Vec<u8
     }
 }
 
-/// Whether two names lead to one file that is there, or are one name.
+/// A name without detours: of a file that is there, or of one that could be made in a folder that is there.
+fn real(path: &Path) -> Option<PathBuf> {
+    let made = || Some(folder_of(path).canonicalize().ok()?.join(path.file_name()?));
+    path.canonicalize().ok().or_else(made)
+}
+
+/// Whether two names are those of one file, or are one name.
 fn same(a: &Path, b: &Path) -> bool {
-    a == b || matches!((a.canonicalize(), b.canonicalize()), (Ok(a), Ok(b)) if a == b)
+    a == b || matches!((real(a), real(b)), (Some(a), Some(b)) if a == b)
 }
 
 /// Says that no file is both read and written, none is written twice, and standard input is read once.

@@ -80,17 +80,16 @@ fn card(row: &Row, number: usize, place: usize) -> String {
     if let Some(start) = row.start {
         let _ = write!(card, ", start {}", place_text(start));
     }
-    let _ = write!(card, "<br><b>refused {number}</b>: {}", plain(numbers::meaning(number)));
-    if let Some(counts) = numbers::number(number).and_then(|row| row.place) {
-        let _ = write!(card, "; the first is {counts} {place}");
-    }
+    let _ = write!(card, "<br><b>refused {number} {place}</b>");
     if let Some((vertices, triangles)) = row.counts {
-        let _ = write!(card, "<br>{vertices} vertices, {triangles} triangles");
+        let _ = write!(card, "; {vertices} vertices, {triangles} triangles");
     }
     if let Some(wrong) = row.wrong {
         let _ = write!(card, ", <b>{wrong} wrong triangles</b>");
     }
-    let _ = write!(card, "</p><p class=\"small\">{}{}</p></div></div>\n", plain(&row.why), sums(row));
+    let remedy = numbers::number(number).map_or("", |row| row.remedy);
+    let (why, remedy) = (plain(&row.why), plain(remedy));
+    let _ = write!(card, "</p><p>{why}.</p><p class=\"small\">{remedy}{}</p></div></div>\n", sums(row));
     card
 }
 

@@ -3,7 +3,7 @@
 use super::manifest::{Entry, Line};
 use crate::abi::Place;
 use crate::args::Start;
-use crate::explain::{sentence, About};
+use crate::explain::{found, About};
 use crate::failure::{shown, Failure};
 use crate::files;
 use crate::judge::judge;
@@ -47,7 +47,7 @@ pub struct Row {
     pub wrong: Option<usize>,
     pub volume_sum: Option<String>,
     pub sheet_sum: Option<String>,
-    /// Why it is not accepted, and what to do.
+    /// Why it is not accepted.
     pub why: String,
     pub picture: Option<Vec<u8>>,
 }
@@ -145,8 +145,7 @@ impl Auditor {
         if judged.verdict.number != 0 {
             let named = (entry.volume.as_path(), volume);
             let start = if entry.start == Start::Unnamed { None } else { judged.start };
-            row.why =
-                sentence(judged.verdict, &About { volume: Some(named), sheet: Some((&entry.sheet, &bytes)), start });
+            row.why = found(judged.verdict, &About { volume: Some(named), sheet: Some((&entry.sheet, &bytes)), start });
         }
         if self.wants.counts {
             let (wants, volume) = (self.wants, volume.clone());

@@ -27,9 +27,9 @@ front one, y from the right one to the front one. A surface is blue where it is 
 is seen from the solid. The same sheet gives the same bytes.
 
 With --volume a triangle that the check would refuse by itself is red, also where it is hidden behind others, and one with a \
-vertex at a wrong position is orange; the start is taken from the sheet itself where none is named. Prints the counts of \
-vertices and triangles, and with --volume the verdict, the start and the count of wrong triangles. The exit status is that \
-of the drawing, not of the verdict.",
+vertex at a wrong position is orange; where there are few, a ring is round each. The start is taken from the sheet itself \
+where none is named. Prints the counts of vertices and triangles, and with --volume the verdict, the start and the count of \
+wrong triangles. The exit status is that of the drawing, not of the verdict.",
     run,
 };
 

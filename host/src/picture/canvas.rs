@@ -5,6 +5,9 @@ use super::view::Point;
 /// Red, green and blue, 0 to 255.
 pub type Colour = [f64; 3];
 
+/// Depths that differ by less are one: two sums for one place need not agree to the last bit.
+const EVEN: f64 = 1e-6;
+
 pub struct Canvas {
     size: usize,
     colours: Vec<Colour>,
@@ -64,10 +67,10 @@ impl Canvas {
         }
     }
 
-    /// Draws a triangle where nothing nearer stands.
+    /// Draws a triangle where nothing nearer stands; of two equally near the later is seen.
     pub fn fill(&mut self, corners: [Point; 3], colour: Colour) {
         self.each(corners, |canvas, at, near| {
-            if near > canvas.near[at] {
+            if near >= canvas.near[at] - EVEN {
                 canvas.near[at] = near;
                 canvas.colours[at] = colour;
             }
@@ -77,7 +80,7 @@ impl Canvas {
     /// Lets a triangle shine through what stands before it.
     pub fn shine(&mut self, corners: [Point; 3], colour: Colour) {
         self.each(corners, |canvas, at, near| {
-            if near < canvas.near[at] - 1e-6 && !canvas.shines[at] {
+            if near < canvas.near[at] - EVEN && !canvas.shines[at] {
                 canvas.shines[at] = true;
                 canvas.colours[at] = [0, 1, 2].map(|i| 0.45 * canvas.colours[at][i] + 0.55 * colour[i]);
             }
@@ -95,6 +98,21 @@ impl Canvas {
                 let within = |v: f64| v >= 0.0 && v < self.size as f64;
                 if within(column) && within(row) {
                     self.colours[row as usize * self.size + column as usize] = colour;
+                }
+            }
+        }
+    }
+
+    /// A ring before everything.
+    pub fn ring(&mut self, middle: Point, radius: f64, colour: Colour) {
+        let last = self.size as f64 - 1.0;
+        let span =
+            |at: f64| (at - radius - 2.0).clamp(0.0, last) as usize..=(at + radius + 2.0).clamp(0.0, last) as usize;
+        for row in span(middle.y) {
+            for column in span(middle.x) {
+                let (dx, dy) = (column as f64 + 0.5 - middle.x, row as f64 + 0.5 - middle.y);
+                if ((dx * dx + dy * dy).sqrt() - radius).abs() < 1.5 {
+                    self.colours[row * self.size + column] = colour;
                 }
             }
         }

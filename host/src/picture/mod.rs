@@ -15,6 +15,9 @@ pub const USUAL: usize = 640;
 /// Hidden wrong triangles that shine through.
 const MOST_SHINING: usize = 4000;
 
+/// So few of a mark get a ring round each, since a triangle may be smaller than a pixel.
+const MOST_RINGED: usize = 24;
+
 /// Each pixel is the mean of so many by so many.
 const FINE: usize = 2;
 
@@ -38,16 +41,30 @@ fn draw(sheet: &Sheet, marks: Option<&[Mark]>, size: usize) -> Vec<u8> {
     let view = frame(sheet, fine, &mut canvas);
     let points: Vec<Point> = sheet.records().map(|[_, x, y, z]| view.seen([x, y, z])).collect();
     let mark = |at: usize| marks.and_then(|marks| marks.get(at)).copied().unwrap_or(Mark::Right);
-    for (at, corners) in sheet.corners().enumerate() {
-        let corners = corners.map(|vertex| points[vertex as usize]);
-        canvas.fill(corners, shaded(corners, mark(at)));
+    // what is wrong comes last, so that it stands before its equals
+    let marked = |wanted: Mark| sheet.corners().enumerate().filter(move |(at, _)| mark(*at) == wanted);
+    let placed = |corners: [u32; 3]| corners.map(|vertex| points[vertex as usize]);
+    for wanted in [Mark::Right, Mark::Vertex, Mark::Triangle] {
+        for (_, corners) in marked(wanted) {
+            canvas.fill(placed(corners), shaded(placed(corners), wanted));
+        }
     }
-    let wrong = sheet.corners().enumerate().filter(|(at, _)| mark(*at) == Mark::Triangle);
     // where there are more, the foremost of them hide whatever is behind
-    for (_, corners) in wrong.take(MOST_SHINING) {
-        canvas.shine(corners.map(|vertex| points[vertex as usize]), WRONG);
+    for (wanted, colour) in [(Mark::Triangle, WRONG), (Mark::Vertex, DISPLACED)] {
+        for (_, corners) in marked(wanted).take(MOST_SHINING) {
+            canvas.shine(placed(corners), colour);
+        }
+    }
+    for (wanted, colour) in [(Mark::Vertex, DISPLACED), (Mark::Triangle, WRONG)] {
+        if marked(wanted).count() <= MOST_RINGED {
+            marked(wanted).for_each(|(_, corners)| canvas.ring(middle(placed(corners)), fine / 40.0, colour));
+        }
     }
     canvas.reduced(FINE)
+}
+
+fn middle([a, b, c]: [Point; 3]) -> Point {
+    Point { x: (a.x + b.x + c.x) / 3.0, y: (a.y + b.y + c.y) / 3.0, near: 0.0 }
 }
 
 /// The view that fits a sheet, with the outline of what is shown and the letters of its axes. Where that is a small part of
