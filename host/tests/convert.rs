@@ -53,6 +53,45 @@ fn a_part_of_a_larger_scan() {
     over.failed_with("30 greys from 71 on the x axis, where there are 100");
 }
 
+/// Every triangle of every surface of a volume, by positions from a place on, lowest corner first.
+fn triangles(folder: &Folder, name: &str, from: [i32; 3]) -> Vec<[[i32; 3]; 3]> {
+    let mut all = Vec::new();
+    let info = folder.run(&format!("info {name}")).output;
+    for start in info.lines().filter_map(|line| line.strip_prefix("start ")?.split(' ').next()) {
+        assert_eq!(folder.run(&format!("build {name} s.sheet --start {start}")).status, Some(0));
+        let sheet = second::parse(&folder.get("s.sheet")).expect("a sheet");
+        let at = |vertex: u32| {
+            let [_, x, y, z] = sheet.records[vertex as usize];
+            [x + 65_536 * from[0], y + 65_536 * from[1], z + 65_536 * from[2]]
+        };
+        let turned = |[a, b, c]: [[i32; 3]; 3]| [[a, b, c], [b, c, a], [c, a, b]].into_iter().min().expect("three");
+        all.extend(sheet.triangles.iter().map(|triangle| turned(triangle.map(at))));
+    }
+    all
+}
+
+#[test]
+fn boxes_that_share_a_layer_make_up_the_whole() {
+    let folder = Folder::new("boxes");
+    let mut random = trials::random::Random::new(8);
+    folder.put("s.raw", &(0..12 * 12 * 12).map(|_| random.bits() as u8).collect::<Vec<_>>());
+    folder.run("from-raw s.raw whole.vol --sizes 12,12,12 --type u8 --level 60");
+    let mut whole = triangles(&folder, "whole.vol", [0; 3]);
+    let mut parts = Vec::new();
+    for (x, nx) in [(0, 7), (6, 6)] {
+        for (y, ny) in [(0, 7), (6, 6)] {
+            for (z, nz) in [(0, 7), (6, 6)] {
+                let line = "from-raw s.raw part.vol --sizes 12,12,12 --type u8 --level 60 --box";
+                assert_eq!(folder.run(&format!("{line} {x},{y},{z},{nx},{ny},{nz}")).status, Some(0));
+                parts.extend(triangles(&folder, "part.vol", [x, y, z]));
+            }
+        }
+    }
+    whole.sort();
+    parts.sort();
+    assert!(whole.len() > 4000 && whole == parts);
+}
+
 #[test]
 fn every_misfit_is_refused_in_words() {
     let folder = Folder::new("misfit");

@@ -1,3 +1,4 @@
+use crate::abi;
 use crate::args::Given;
 use crate::command::Command;
 use crate::failure::Failure;
@@ -16,7 +17,7 @@ pub static COMMAND: Command = Command {
 };
 
 fn run(_: &Given, streams: &mut Streams) -> Result<Ended, Failure> {
-    let library = match (crate::abi::EMULATED, cfg!(feature = "own")) {
+    let library = match (abi::EMULATED, abi::OWN) {
         (true, _) => "the proved library's x86-64 code, under an emulator",
         (false, true) => "the proved library's module, compiled for this processor",
         (false, false) => "the proved library, linked in",
