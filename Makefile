@@ -43,8 +43,7 @@ trials: host
 
 ## make bench     the proved library beside a hand-written C mesher, and the audit of 10,000 sheets
 bench:
-	sh host/own.sh bench
-	sh host/own.sh sh host/audit-rate.sh
+	sh host/own.sh sh -c 'bench && sh host/audit-rate.sh'
 
 ## make page      an audit's page opened in a browser (Debian's chromium), as a picture
 page: tool

@@ -1,12 +1,19 @@
 #!/bin/sh
 # cargo.sh COMMAND [WORDS]: cargo in this folder, with optimization and without the network. What is missing is installed from
-# Debian's packages: cargo (`cargo-web` is the one that is new enough) with the C compiler that links for it, and the libraries,
-# which cargo takes from the folder that their packages install to.
+# Debian's packages: cargo (`cargo-web` is the one that is new enough), a C compiler, and the libraries, which cargo takes from
+# the folder that their packages install to; for `test`, also what the examples for others are tried with.
 set -eu
 cd "$(dirname "$0")"
 libraries='librust-png-dev librust-sha2-dev librust-signal-hook-dev'
 missing=
-command -v cargo >/dev/null || missing='cargo-web rustc-web gcc'
+# need PROGRAM PACKAGES: the packages, where there is no such program.
+need() { command -v "$1" >/dev/null || missing="$missing $2"; }
+need cargo 'cargo-web rustc-web'
+need cc 'gcc libc6-dev'
+if [ "$1" = test ]; then
+    need python3 python3
+    need pkg-config pkgconf
+fi
 # shellcheck disable=SC2086 # a list of packages
 dpkg -L $libraries >/dev/null 2>&1 || missing="$missing $libraries"
 # shellcheck disable=SC2086

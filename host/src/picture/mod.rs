@@ -4,7 +4,7 @@
 mod canvas;
 mod view;
 
-use crate::marks::Mark;
+use crate::marks::{wrong, Mark};
 use crate::sheet::Sheet;
 use canvas::{Canvas, Colour};
 use view::{Point, Space, View};
@@ -36,11 +36,13 @@ pub fn png(sheet: &Sheet, marks: Option<&[Mark]>, size: usize) -> Vec<u8> {
 
 /// The picture as rows of red, green and blue.
 fn draw(sheet: &Sheet, marks: Option<&[Mark]>, size: usize) -> Vec<u8> {
-    let fine = (size * FINE) as f64;
-    let mut canvas = Canvas::new(size * FINE, PAPER);
+    let mark = |at: usize| marks.and_then(|marks| marks.get(at)).copied().unwrap_or(Mark::Right);
+    // thousands of wrong triangles are mostly large, and slow to draw
+    let fineness = if marks.is_some_and(|marks| wrong(marks) > MOST_SHINING) { 1 } else { FINE };
+    let fine = (size * fineness) as f64;
+    let mut canvas = Canvas::new(size * fineness, PAPER);
     let view = frame(sheet, fine, &mut canvas);
     let points: Vec<Point> = sheet.records().map(|[_, x, y, z]| view.seen([x, y, z])).collect();
-    let mark = |at: usize| marks.and_then(|marks| marks.get(at)).copied().unwrap_or(Mark::Right);
     // what is wrong comes last, so that it stands before its equals
     let marked = |wanted: Mark| sheet.corners().enumerate().filter(move |(at, _)| mark(*at) == wanted);
     let placed = |corners: [u32; 3]| corners.map(|vertex| points[vertex as usize]);
@@ -60,7 +62,7 @@ fn draw(sheet: &Sheet, marks: Option<&[Mark]>, size: usize) -> Vec<u8> {
             marked(wanted).for_each(|(_, corners)| canvas.ring(middle(placed(corners)), fine / 40.0, colour));
         }
     }
-    canvas.reduced(FINE)
+    canvas.reduced(fineness)
 }
 
 fn middle([a, b, c]: [Point; 3]) -> Point {

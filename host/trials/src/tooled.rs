@@ -126,18 +126,20 @@ fn random_start_word(random: &mut Random, start: Start) -> String {
 
 /// A command line that means something, or a random row of words.
 fn words(random: &mut Random, start: Start) -> Vec<OsString> {
-    let mut words: Vec<OsString> = match random.below(7) {
+    let mut words: Vec<OsString> = match random.below(9) {
         0 => vec!["build".into(), volume_name(random).into(), sheet_name(random).into()],
         1 | 2 => vec!["check".into(), volume_name(random).into(), sheet_name(random).into()],
         3 => vec!["list".into(), volume_name(random).into()],
         4 => vec!["show".into(), sheet_name(random).into()],
         5 => vec!["audit".into(), "m.txt".into()],
+        6 => vec!["info".into(), volume_name(random).into()],
+        7 => return picture(random, start),
         _ => return (0..random.below(6)).map(|_| any_word(random, start)).collect(),
     };
     if random.once_in(20) && words.len() > 1 {
         words[1] = "-".into();
     }
-    let takes_start = words[0] != "show" && words[0] != "audit";
+    let takes_start = ["build", "check", "list"].iter().any(|name| words[0] == *name);
     if random.once_in(if takes_start { 2 } else { 30 }) {
         words.push("--start".into());
         words.push(random_start_word(random, start).into());
@@ -147,6 +149,18 @@ fn words(random: &mut Random, start: Start) -> Vec<OsString> {
         1 => drop(words.remove(random.below(words.len()))),
         2 => random.shuffle(&mut words),
         _ => {}
+    }
+    words
+}
+
+/// A picture to standard output.
+fn picture(random: &mut Random, start: Start) -> Vec<OsString> {
+    let mut words: Vec<OsString> = ["picture", sheet_name(random), "-", "--size", "64"].map(OsString::from).into();
+    if random.once_in(2) {
+        words.extend(["--volume".into(), volume_name(random).into()]);
+    }
+    if random.once_in(3) {
+        words.extend(["--start".into(), random_start_word(random, start).into()]);
     }
     words
 }
@@ -435,7 +449,7 @@ pub fn round(random: &mut Random) -> usize {
     let settled = !matches!(wanted.output, Output::Any);
     assert!(if settled { status == wanted.status } else { status <= 2 }, "{args:?} ended with {status}: {said}");
     // Most commands say something exactly when it is not well; an audit or a build may have something to say on the way.
-    let talks = matches!(&command, Ok((command, _)) if ["audit", "build", "info"].contains(&command.name));
+    let talks = matches!(&command, Ok((command, _)) if ["audit", "build", "info", "picture"].contains(&command.name));
     assert!(talks || errors.is_empty() == (status == 0), "{args:?} ended with {status} and said {errors:?}");
     files.extend(wanted.written);
     assert!(files == snapshot_all(), "{args:?}: the folder is not as it should be");
