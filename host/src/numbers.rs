@@ -41,7 +41,12 @@ pub const NUMBERS: [Number; 17] = [
         "Copy the volume again if it was cut short; if it has a header or a tail of another program, make it anew with \
          'malxuqeed from-raw'.",
     ),
-    row(3, "WORK", "a lent work slice is too short", "Lend cube words and a waiting list as long as there are cubes, and seven edge slots a sample."),
+    row(
+        3,
+        "WORK",
+        "a lent work slice is too short",
+        "Lend cube words and a waiting list as long as there are cubes, and seven edge slots a sample.",
+    ),
     row(
         4,
         "START",

@@ -1,34 +1,12 @@
 //! The audit as one page that needs nothing besides itself.
 
 use super::row::{Outcome, Row};
+use super::totals::Totals;
 use crate::commands::version::VERSION;
 use crate::explain::place_text;
 use crate::failure::{escaped, shown};
 use crate::numbers;
-use std::collections::BTreeMap;
 use std::fmt::Write;
-
-/// How many sheets got each verdict.
-#[derive(Clone, Debug, Default, PartialEq, Eq)]
-pub struct Totals {
-    pub accepted: usize,
-    pub refused: usize,
-    pub unread: usize,
-    pub numbers: BTreeMap<usize, usize>,
-}
-
-impl Totals {
-    pub fn add(&mut self, outcome: Outcome) {
-        match outcome {
-            Outcome::Accepted => self.accepted += 1,
-            Outcome::Refused { number, .. } => {
-                self.refused += 1;
-                *self.numbers.entry(number).or_default() += 1;
-            }
-            Outcome::Unread => self.unread += 1,
-        }
-    }
-}
 
 const STYLE: &str = "\
 body{font:15px/1.45 system-ui,sans-serif;color:#222;max-width:62rem;margin:2rem auto;padding:0 1rem}\
@@ -41,6 +19,10 @@ h1{font-size:1.5rem;margin-bottom:.2rem}h2{font-size:1.15rem;margin-top:2rem}\
 .sheet p{margin:.3rem 0}table{border-collapse:collapse;width:100%;font-size:.85rem}\
 td,th{text-align:left;padding:.2rem .5rem;border-top:1px solid #ddd;vertical-align:top}\
 code{font-size:.75rem;color:#666;word-break:break-all}.small{color:#666;font-size:.85rem}";
+
+const BELIEF: &str =
+    "Each sheet was held against the samples of its volume by a checker that is proved to accept a file exactly \
+                      when it holds the surface.";
 
 /// A text with the signs of the page's language escaped.
 fn plain(text: &str) -> String {
@@ -89,74 +71,101 @@ fn card(row: &Row, number: usize, place: usize) -> String {
     }
     let remedy = numbers::number(number).map_or("", |row| row.remedy);
     let (why, remedy) = (plain(&row.why), plain(remedy));
-    let _ = write!(card, "</p><p>{why}.</p><p class=\"small\">{remedy}{}</p></div></div>\n", sums(row));
+    let _ = writeln!(card, "</p><p>{why}.</p><p class=\"small\">{remedy}{}</p></div></div>", sums(row));
     card
 }
 
+/// The page: totals, what the numbers mean, then the wrong sheets, the unread and the sound ones.
 pub fn file(rows: &[Row], totals: &Totals, manifest: &str, date: &str) -> Vec<u8> {
-    let (refused, unread, accepted) = (totals.refused, totals.unread, totals.accepted);
-    let mut page = format!(
-        "<!DOCTYPE html>\n<html lang=\"en\"><head><meta charset=\"utf-8\"><title>Audit of {0}</title><style>{STYLE}</style></head><body>\n\
-         <h1>Which sheets are sound: audit of {0}</h1>\n<p class=\"small\">{date}, malxuqeed {VERSION}. Each sheet was held against the samples \
-         of its volume by a checker that is proved to accept a file exactly when it holds the surface.</p>\n\
-         <ul class=\"totals\"><li><b>{1}</b>sheets</li><li class=\"wrong\"><b>{refused}</b>refused: wrong</li>\
-         <li class=\"unread\"><b>{unread}</b>unread</li><li class=\"good\"><b>{accepted}</b>accepted: sound</li></ul>\n",
-        plain(manifest),
-        rows.len()
-    );
+    let manifest = plain(manifest);
+    let mut page =
+        format!("<!DOCTYPE html>\n<html lang=\"en\"><head><meta charset=\"utf-8\"><title>Audit of {manifest}</title>");
+    let _ = writeln!(page, "<style>{STYLE}</style></head><body>\n<h1>Which sheets are sound: audit of {manifest}</h1>");
+    let _ = writeln!(page, "<p class=\"small\">{date}, malxuqeed {VERSION}. {BELIEF}</p>");
+    page += &counts(totals);
     page += &meanings(totals);
-    if refused > 0 {
-        page += "<h2>Wrong sheets</h2>\n<p class=\"small\">In the pictures wrong triangles are red, also where others hide them; triangles with a \
-                 vertex at a wrong position are orange.</p>\n";
-        for row in rows {
-            if let Outcome::Refused { number, place } = row.outcome {
-                page += &card(row, number, place);
-            }
-        }
-    }
-    if unread > 0 {
-        page += "<h2>Unread</h2>\n<p class=\"small\">Nothing is known of these. Find the file or mend the manifest's line, and audit again.</p>\n<ul>\n";
-        for row in rows.iter().filter(|row| row.outcome == Outcome::Unread) {
-            let _ = writeln!(
-                page,
-                "<li>{} {}: {}</li>",
-                plain(&shown(&row.volume)),
-                plain(&shown(&row.sheet)),
-                plain(&row.why)
-            );
-        }
-        page += "</ul>\n";
-    }
-    if accepted > 0 {
-        page += "<h2>Sound sheets</h2>\n<table><tr><th>sheet</th><th>volume</th><th>start</th><th>vertices</th><th>triangles</th></tr>\n";
-        for row in rows.iter().filter(|row| row.outcome == Outcome::Accepted) {
-            let (sheet, volume) = (plain(&shown(&row.sheet)), plain(&shown(&row.volume)));
-            let (vertices, triangles) = row.counts.unwrap_or_default();
-            let start = row.start.map_or(String::new(), place_text);
-            let _ = writeln!(
-                page,
-                "<tr><td>{sheet}{}</td><td>{volume}</td><td>{start}</td><td>{vertices}</td><td>{triangles}</td></tr>",
-                sums(row)
-            );
-        }
-        page += "</table>\n";
-    }
+    page += &wrong_sheets(rows);
+    page += &unread_sheets(rows);
+    page += &sound_sheets(rows);
     page += "</body></html>\n";
     page.into_bytes()
 }
 
-/// What each number that came means, and what to do.
-fn meanings(totals: &Totals) -> String {
-    if totals.numbers.is_empty() {
+fn counts(totals: &Totals) -> String {
+    let box_of = |class: &str, count: usize, words: &str| format!("<li class=\"{class}\"><b>{count}</b>{words}</li>");
+    let boxes = [
+        box_of("all", totals.all(), "sheets"),
+        box_of("wrong", totals.refused, "refused: wrong"),
+        box_of("unread", totals.unread, "unread"),
+        box_of("good", totals.accepted, "accepted: sound"),
+    ];
+    format!("<ul class=\"totals\">{}</ul>\n", boxes.concat())
+}
+
+/// A part of the page, where it holds something.
+fn part(title: &str, note: &str, content: &str) -> String {
+    if content.is_empty() {
         return String::new();
     }
-    let mut table = String::from("<h2>What the numbers mean</h2>\n<table><tr><th>number</th><th>sheets</th><th>means</th><th>what to do</th></tr>\n");
-    for (number, count) in &totals.numbers {
+    let note = if note.is_empty() { String::new() } else { format!("<p class=\"small\">{note}</p>\n") };
+    format!("<h2>{title}</h2>\n{note}{content}")
+}
+
+/// A table, where it has rows.
+fn table(columns: &[&str], rows: &[String]) -> String {
+    if rows.is_empty() {
+        return String::new();
+    }
+    let head: String = columns.iter().map(|column| format!("<th>{column}</th>")).collect();
+    format!("<table><tr>{head}</tr>\n{}</table>\n", rows.concat())
+}
+
+fn wrong_sheets(rows: &[Row]) -> String {
+    let cards = rows.iter().filter_map(|row| match row.outcome {
+        Outcome::Refused { number, place } => Some(card(row, number, place)),
+        _ => None,
+    });
+    let note = "In the pictures wrong triangles are red, also where others hide them; triangles with a vertex at a wrong position are \
+                orange; where there are few, a ring is round each.";
+    part("Wrong sheets", note, &cards.collect::<String>())
+}
+
+fn unread_sheets(rows: &[Row]) -> String {
+    let unread = rows.iter().filter(|row| row.outcome == Outcome::Unread);
+    let lines: Vec<String> = unread
+        .map(|row| {
+            let [volume, sheet] = [&row.volume, &row.sheet].map(|name| plain(&shown(name)));
+            format!("<tr><td>{sheet}</td><td>{volume}</td><td>{}</td></tr>\n", plain(&row.why))
+        })
+        .collect();
+    let note = "Nothing is known of these. Find the file or mend the manifest's line, and audit again.";
+    part("Unread", note, &table(&["sheet", "volume", "why"], &lines))
+}
+
+fn sound_sheets(rows: &[Row]) -> String {
+    let sound = rows.iter().filter(|row| row.outcome == Outcome::Accepted);
+    let lines: Vec<String> = sound
+        .map(|row| {
+            let [volume, sheet] = [&row.volume, &row.sheet].map(|name| plain(&shown(name)));
+            let (vertices, triangles) = row.counts.unwrap_or_default();
+            let (start, sums) = (row.start.map_or(String::new(), place_text), sums(row));
+            let cells = [sheet + &sums, volume, start, vertices.to_string(), triangles.to_string()];
+            format!("<tr>{}</tr>\n", cells.map(|cell| format!("<td>{cell}</td>")).concat())
+        })
+        .collect();
+    let note = "Each holds exactly the surface of its volume through its start.";
+    part("Sound sheets", note, &table(&["sheet", "volume", "start", "vertices", "triangles"], &lines))
+}
+
+/// What each number that came means, and what to do.
+fn meanings(totals: &Totals) -> String {
+    let row = |(number, count): (&usize, &usize)| {
         let remedy = numbers::number(*number).map_or("", |row| row.remedy);
         let (means, remedy) = (plain(numbers::meaning(*number)), plain(remedy));
-        let _ = writeln!(table, "<tr><td>{number}</td><td>{count}</td><td>{means}</td><td>{remedy}</td></tr>");
-    }
-    table + "</table>\n"
+        format!("<tr><td>{number}</td><td>{count}</td><td>{means}</td><td>{remedy}</td></tr>\n")
+    };
+    let rows: Vec<String> = totals.numbers.iter().map(row).collect();
+    part("What the numbers mean", "", &table(&["number", "sheets", "means", "what to do"], &rows))
 }
 
 #[cfg(test)]

@@ -7,3 +7,4 @@ pub mod json;
 pub mod manifest;
 pub mod progress;
 pub mod row;
+pub mod totals;

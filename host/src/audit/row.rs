@@ -52,6 +52,13 @@ pub struct Row {
     pub picture: Option<Vec<u8>>,
 }
 
+/// A value of a report's column.
+pub enum Value<'a> {
+    Name(&'a Path),
+    Text(Option<String>),
+    Number(Option<usize>),
+}
+
 /// What the reports need besides verdicts.
 #[derive(Clone, Copy, Default)]
 pub struct Wants {
@@ -205,8 +212,25 @@ impl Row {
         line
     }
 
-    /// The start as the reports have it.
-    pub fn start_text(&self) -> String {
-        self.start.map_or(String::new(), |Place { x, y, z }| format!("{x} {y} {z}"))
+    /// The columns of the reports, by name.
+    pub fn columns(&self) -> [(&'static str, Value<'_>); 11] {
+        let (number, place) = match self.outcome {
+            Outcome::Accepted => (Some(0), Some(0)),
+            Outcome::Refused { number, place } => (Some(number), Some(place)),
+            Outcome::Unread => (None, None),
+        };
+        [
+            ("volume", Value::Name(&self.volume)),
+            ("sheet", Value::Name(&self.sheet)),
+            ("start", Value::Text(self.start.map(|Place { x, y, z }| format!("{x} {y} {z}")))),
+            ("verdict", Value::Text(Some(self.outcome.word().to_string()))),
+            ("number", Value::Number(number)),
+            ("place", Value::Number(place)),
+            ("vertices", Value::Number(self.counts.map(|counts| counts.0))),
+            ("triangles", Value::Number(self.counts.map(|counts| counts.1))),
+            ("wrong_triangles", Value::Number(self.wrong)),
+            ("volume_sha256", Value::Text(self.volume_sum.clone())),
+            ("sheet_sha256", Value::Text(self.sheet_sum.clone())),
+        ]
     }
 }

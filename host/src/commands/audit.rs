@@ -1,8 +1,8 @@
 use crate::args::Given;
-use crate::audit::html::Totals;
-use crate::audit::manifest::lines;
+use crate::audit::manifest::{lines, Line};
 use crate::audit::progress::Progress;
 use crate::audit::row::{Auditor, Row, Wants};
+use crate::audit::totals::Totals;
 use crate::audit::{csv, date, html, json};
 use crate::command::{Command, Opt, FORCE};
 use crate::failure::{shown, Failure};
@@ -70,12 +70,15 @@ fn folder(given: &Given, manifest: &Path) -> PathBuf {
     }
 }
 
+/// The reports that are asked for, and their files.
+fn reports(given: &Given) -> Vec<(&'static Opt, &Path)> {
+    let named = |option: &'static Opt| given.get(option).map(|path| (option, Path::new(path)));
+    [&CSV, &JSON, &HTML].into_iter().filter_map(named).collect()
+}
+
 fn run(given: &Given, streams: &mut Streams) -> Result<Ended, Failure> {
     let manifest = given.name(0);
-    let reports: Vec<(&Opt, &Path)> = [&CSV, &JSON, &HTML]
-        .into_iter()
-        .filter_map(|option| given.get(option).map(|path| (option, Path::new(path))))
-        .collect();
+    let reports = reports(given);
     let written: Vec<&Path> = reports.iter().map(|(_, path)| *path).collect();
     files::apart(&[manifest], &written)?;
     let lines = lines(&read(manifest, streams)?, manifest);
@@ -83,32 +86,12 @@ fn run(given: &Given, streams: &mut Streams) -> Result<Ended, Failure> {
         return Err(Failure::File(format!("{} names no sheet: a line is VOLUME SHEET [X,Y,Z]", shown(manifest))));
     }
     // begun now, so that an audit of hours does not end in a file that cannot be written
-    let force = given.has(&FORCE);
-    let begun: Vec<(&Opt, Pending)> = reports
-        .iter()
-        .map(|(option, path)| Ok((*option, Pending::new(path, force)?)))
-        .collect::<Result<_, Failure>>()?;
+    let begin = |(option, path): &(&'static Opt, &Path)| Ok((*option, Pending::new(path, given.has(&FORCE))?));
+    let begun: Vec<(&Opt, Pending)> = reports.iter().map(begin).collect::<Result<_, Failure>>()?;
     let quiet = written.iter().any(|path| files::is_stream(path));
     let wants = Wants { counts: !reports.is_empty(), pictures: given.has(&HTML) };
-
     let mut auditor = Auditor::new(folder(given, manifest), wants);
-    let mut progress = Progress::new(lines.len());
-    let mut totals = Totals::default();
-    let mut rows: Vec<Row> = Vec::new();
-    for (done, line) in lines.iter().enumerate() {
-        progress.show(done, streams);
-        let row = auditor.judge(line);
-        totals.add(row.outcome);
-        if !quiet {
-            progress.wipe(streams);
-            streams.print(format_args!("{}", row.line()))?;
-            streams.flush()?;
-        }
-        if !reports.is_empty() {
-            rows.push(row);
-        }
-    }
-    progress.wipe(streams);
+    let (rows, totals) = judge_all(&lines, &mut auditor, quiet, streams)?;
     let date = date::now();
     for (option, pending) in begun {
         let bytes = match option.name {
@@ -118,17 +101,37 @@ fn run(given: &Given, streams: &mut Streams) -> Result<Ended, Failure> {
         };
         pending.finish(&bytes, streams)?;
     }
-    summary(&totals, lines.len(), quiet, streams)?;
-    Ok(match (totals.unread, totals.refused) {
-        (0, 0) => Ended::Well,
-        (0, _) => Ended::Refused,
-        _ => Ended::Unread,
-    })
+    summary(&totals, quiet, streams)?;
+    Ok(totals.ended())
+}
+
+/// Judges line after line, and prints each verdict where nothing else is printed.
+fn judge_all(
+    lines: &[Line],
+    auditor: &mut Auditor,
+    quiet: bool,
+    streams: &mut Streams,
+) -> Result<(Vec<Row>, Totals), Failure> {
+    let mut progress = Progress::new(lines.len());
+    let (mut rows, mut totals) = (Vec::with_capacity(lines.len()), Totals::default());
+    for (done, line) in lines.iter().enumerate() {
+        progress.show(done, streams);
+        let row = auditor.judge(line);
+        totals.add(row.outcome);
+        if !quiet {
+            progress.wipe(streams);
+            streams.print(format_args!("{}", row.line()))?;
+            streams.flush()?;
+        }
+        rows.push(row);
+    }
+    progress.wipe(streams);
+    Ok((rows, totals))
 }
 
 /// Totals on standard output, or on standard error where a report has taken that; what the numbers mean on standard error.
-fn summary(totals: &Totals, all: usize, quiet: bool, streams: &mut Streams) -> Result<(), Failure> {
-    let (accepted, refused, unread) = (totals.accepted, totals.refused, totals.unread);
+fn summary(totals: &Totals, quiet: bool, streams: &mut Streams) -> Result<(), Failure> {
+    let (all, accepted, refused, unread) = (totals.all(), totals.accepted, totals.refused, totals.unread);
     let mut text = vec![format!("sheets {all}, accepted {accepted}, refused {refused}, unread {unread}")];
     text.extend(totals.numbers.iter().map(|(number, count)| format!("number {number}: {count}")));
     for line in text {

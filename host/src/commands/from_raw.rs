@@ -162,18 +162,19 @@ enum Raw {
 const LONGEST: u64 = 4 << 30;
 
 impl Raw {
+    /// Opens a file, or takes what a stream has, as far as one byte more than is wanted; answers the length too.
     fn open(path: &Path, wanted: u64, streams: &mut Streams) -> io::Result<(Raw, u64)> {
-        if !files::is_stream(path) {
+        let most = LONGEST.min(wanted.saturating_add(1));
+        let bytes = if files::is_stream(path) {
+            files::read_front(&mut *streams.input, most)?
+        } else {
             let file = File::open(path)?;
             let about = file.metadata()?;
             if about.is_file() {
                 return Ok((Raw::File(file), about.len()));
             }
-            let bytes = files::read_front(file, LONGEST.min(wanted + 1))?;
-            let length = bytes.len() as u64;
-            return Ok((Raw::Bytes(bytes), length));
-        }
-        let bytes = files::read_front(&mut *streams.input, LONGEST.min(wanted + 1))?;
+            files::read_front(file, most)?
+        };
         let length = bytes.len() as u64;
         Ok((Raw::Bytes(bytes), length))
     }
