@@ -125,8 +125,8 @@ pub const NUMBERS: [Number; 17] = [
         19,
         "ABSENT",
         "a vertex or a triangle of this surface is missing from the sheet file",
-        "Likely causes: the sheet was thinned, repaired or cut, or its writer stopped early. Figures taken from it are too \
-         small; build the sheet anew.",
+        "Likely causes: the sheet was thinned, repaired or cut, or its writer stopped early. Do not use figures taken \
+         from it; build the sheet anew.",
     ),
 ];
 

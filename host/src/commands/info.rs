@@ -94,7 +94,7 @@ impl Facts {
             hints.push("hint: no sample is air: the level is below all greys, or the sign is turned".to_string());
         }
         let (rim, rim_air) = rim(volume);
-        if self.air > 0 && 10 * rim_air < rim && 10 * self.air > 4 * all {
+        if self.air > 0 && 10 * rim_air < rim && 5 * self.air > all {
             let solid = percent(rim - rim_air, rim);
             hints.push(format!(
                 "hint: {solid} of the outermost samples are solid while much of the inside is air: if air surrounds the part, the \
