@@ -33,14 +33,18 @@ impl Failure {
 
 /// An error in words, with what to do where that is plain.
 fn plain(error: &io::Error) -> String {
-    match error.kind() {
-        io::ErrorKind::NotFound => "there is no such file or folder; look at the name".to_string(),
-        io::ErrorKind::PermissionDenied => {
-            "it is not permitted; look at the file's and the folder's rights".to_string()
+    let known = match error.kind() {
+        io::ErrorKind::NotFound => "there is no such file or folder; look at the name",
+        io::ErrorKind::PermissionDenied => "it is not permitted; look at the file's and the folder's rights",
+        io::ErrorKind::IsADirectory => "it is a folder; name a file",
+        io::ErrorKind::NotADirectory => "a part of the name is no folder; look at the name",
+        io::ErrorKind::StorageFull | io::ErrorKind::QuotaExceeded | io::ErrorKind::FileTooLarge => {
+            "there is no room for it; make room and try again"
         }
-        io::ErrorKind::StorageFull => "the disk is full; make room and try again".to_string(),
-        _ => error.to_string(),
-    }
+        io::ErrorKind::ReadOnlyFilesystem => "the disk is write-protected; name another place",
+        _ => return error.to_string(),
+    };
+    known.to_string()
 }
 
 /// A name as it can be shown: control characters are escaped, `-` is the stream.

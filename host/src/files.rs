@@ -28,7 +28,9 @@ pub fn read_front(from: impl Read, most: u64) -> io::Result<Vec<u8>> {
 pub fn read_whole(from: impl Read, most: u64) -> io::Result<Vec<u8>> {
     let bytes = read_front(from, most + 1)?;
     if bytes.len() as u64 > most {
-        return Err(io::Error::other(format!("it is longer than {most} bytes")));
+        return Err(io::Error::other(format!(
+            "it is longer than the {most} bytes that such a file may have; look at the name"
+        )));
     }
     Ok(bytes)
 }
@@ -92,6 +94,17 @@ pub fn apart(read: &[&Path], written: &[&Path]) -> Result<(), Failure> {
 /// Writes a file, or to standard output.
 pub fn put(path: &Path, bytes: &[u8], force: bool, streams: &mut Streams) -> Result<(), Failure> {
     Pending::new(path, force)?.finish(bytes, streams)
+}
+
+/// A command's answer: on standard output, or on standard error where the file that was written has taken that.
+pub fn answer(written: &Path, line: &str, streams: &mut Streams) -> Result<(), Failure> {
+    if is_stream(written) {
+        streams.flush()?;
+        streams.say(line);
+        return Ok(());
+    }
+    streams.print(format_args!("{line}"))?;
+    streams.flush()
 }
 
 /// A file that is to be written. It is begun beside its name, and gets the name when it is whole and on the disk: whatever
@@ -163,7 +176,7 @@ fn target(path: &Path, force: bool) -> io::Result<(PathBuf, Option<Permissions>)
             let real = path.canonicalize()?;
             let about = real.metadata()?;
             if !about.is_file() {
-                return Err(io::Error::other("it is not a plain file"));
+                return Err(io::Error::other("it is not a plain file; name another"));
             }
             if !force && (about.permissions().readonly() || File::options().write(true).open(&real).is_err()) {
                 return Err(io::Error::other("it is write-protected; --force replaces it"));

@@ -101,7 +101,7 @@ fn every_misfit_is_refused_in_words() {
     with("--sizes 2,2,6 --type u8 --level 5")
         .failed_with("2 x 2 x 6 greys of 1 byte(s) make 24 bytes, r.raw holds 20, 4 fewer");
     with("--sizes 2,2,4 --type u8 --level 5")
-        .failed_with("r.raw holds 20, 4 more: if that is a header, cut it off with 'tail -c +5'");
+        .failed_with("r.raw holds 20, 4 more: look at --sizes and --type; if that is a header, cut it off with 'tail -c +5 r.raw >NEW'");
     with("--sizes 2,2,5 --type u16 --level 5").failed_with("make 40 bytes");
     with("--sizes 2,2 --type u8 --level 5").failed_with("--sizes takes X,Y,Z");
     with("--sizes 1,4,5 --type u8 --level 5").failed_with("an axis has 2 to 64 samples");

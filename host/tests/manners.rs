@@ -178,7 +178,9 @@ fn closed_standard_output_is_an_error() {
         folder.shell(&format!("\"$1\" {line} >&-")).failed_with("standard output is closed");
     }
     assert_eq!(folder.names(), ["l.vol"]);
-    folder.shell("\"$1\" list l.vol > /dev/full").failed_with("standard output cannot be written: the disk is full");
+    folder
+        .shell("\"$1\" list l.vol > /dev/full")
+        .failed_with("standard output cannot be written: there is no room for it");
 }
 
 #[test]

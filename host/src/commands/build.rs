@@ -45,13 +45,7 @@ fn run(given: &Given, streams: &mut Streams) -> Result<Ended, Failure> {
     };
     files::put(to, &bytes, given.has(&FORCE), streams)?;
     let counts = format!("{} {} {}", built.vertices, built.triangles, built.cubes);
-    if files::is_stream(to) {
-        streams.flush()?;
-        streams.say(&counts);
-    } else {
-        streams.print(format_args!("{counts}"))?;
-        streams.flush()?;
-    }
+    files::answer(to, &counts, streams)?;
     if let Some(rest) = rest(&volume, start) {
         streams.say(&rest);
     }

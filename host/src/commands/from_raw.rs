@@ -204,13 +204,7 @@ fn run(given: &Given, streams: &mut Streams) -> Result<Ended, Failure> {
     let air = volume.samples.iter().filter(|sample| **sample > 0).count();
     let [nx, ny, nz] = asked.sizes;
     let line = format!("{nx} {ny} {nz} samples, {air} of {} are air", volume.samples.len());
-    streams.flush()?;
-    if files::is_stream(to) {
-        streams.say(&line);
-    } else {
-        streams.print(format_args!("{line}"))?;
-        streams.flush()?;
-    }
+    files::answer(to, &line, streams)?;
     if Cubes::of(&volume).and_then(|cubes| cubes.lowest_crossed()).is_none() {
         let side = if air == 0 { "solid" } else { "air" };
         streams.say(&format!(
@@ -225,19 +219,16 @@ fn misfit(asked: &Asked, path: &Path, wanted: u64, length: u64) -> String {
     let [nx, ny, nz] = asked.all;
     let sizes = sizes_text(Sizes { nx, ny, nz });
     let head = format!("{sizes} greys of {} byte(s) make {wanted} bytes, {} holds", asked.grey.width(), shown(path));
-    if length > wanted && matches!(path.to_str(), Some("-")) {
+    if length < wanted {
+        let fewer = wanted - length;
+        return format!("{head} {length}, {fewer} fewer: look at --sizes and --type, or copy the file again");
+    }
+    if files::is_stream(path) {
         return format!("{head} more: look at --sizes and --type, and cut a header off first");
     }
-    let what = if length > wanted {
-        let more = length - wanted;
-        format!(
-            "{more} more: if that is a header, cut it off with 'tail -c +{}'; else look at --sizes and --type",
-            more + 1
-        )
-    } else {
-        format!("{} fewer: look at --sizes and --type, or copy the file again", wanted - length)
-    };
-    format!("{head} {length}, {what}")
+    let more = length - wanted;
+    let cut = format!("tail -c +{} {} >NEW", more + 1, shown(path));
+    format!("{head} {length}, {more} more: look at --sizes and --type; if that is a header, cut it off with '{cut}'")
 }
 
 /// The samples of the box.

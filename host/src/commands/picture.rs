@@ -74,11 +74,6 @@ fn run(given: &Given, streams: &mut Streams) -> Result<Ended, Failure> {
     }
     let png = picture::png(&sheet, marked.as_deref(), size);
     files::put(to, &png, given.has(&FORCE), streams)?;
-    streams.flush()?;
-    if files::is_stream(to) {
-        streams.say(&line);
-    } else {
-        streams.print(format_args!("{line}"))?;
-    }
+    files::answer(to, &line, streams)?;
     Ok(Ended::Well)
 }
