@@ -2,6 +2,7 @@
 
 use crate::abi::{Place, Sizes, Verdict};
 use crate::failure::shown;
+use crate::files;
 use crate::numbers;
 use crate::room;
 use crate::sheet::Sheet;
@@ -131,7 +132,7 @@ fn layout(number: usize, path: &Path, bytes: &[u8], about: &About) -> Option<Str
     let Trailer { vertices, triangles, sizes, mark } = trailer(bytes)?;
     match number {
         12 => Some(format!("{name} ends in {mark}, a sheet file in the mark 21331")),
-        14 if length == 25 => Some(format!("{name} is longer than any sheet file")),
+        14 if bytes.len() == files::END => Some(format!("{name} is longer than any sheet file")),
         14 => {
             let wanted = 16 * vertices + 12 * triangles + 24;
             let limits =

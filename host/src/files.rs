@@ -44,14 +44,17 @@ pub fn read_named(path: &Path, most: u64, streams: &mut Streams) -> io::Result<V
     }
 }
 
-/// Reads a sheet file. Of a file that is longer than any sheet its last 25 bytes are enough: they hold the trailer, and
-/// no counts give a length of 25, so the library's answer is the same as for the whole.
+/// So many bytes of a file that is longer than any sheet are enough, its last: they hold the trailer, and no counts give
+/// such a length, so the library's answer is the same as for the whole.
+pub const END: usize = 25;
+
+/// Reads a sheet file, or the end of one that is too long.
 pub fn read_sheet(path: &Path) -> io::Result<Vec<u8>> {
     let mut file = File::open(path)?;
     let length = file.metadata()?.len();
     if length > LONGEST_SHEET {
-        file.seek(SeekFrom::Start(length - 25))?;
-        return read_front(file, 25);
+        file.seek(SeekFrom::Start(length - END as u64))?;
+        return read_front(file, END as u64);
     }
     read_whole(file, LONGEST_SHEET)
 }

@@ -1,5 +1,6 @@
 //! The audit: the sheets of a manifest judged one after another, and reports of it.
 
+pub mod auditor;
 pub mod csv;
 pub mod date;
 pub mod html;

@@ -1,7 +1,8 @@
 use crate::args::Given;
+use crate::audit::auditor::{Auditor, Wants};
 use crate::audit::manifest::{lines, Line};
 use crate::audit::progress::Progress;
-use crate::audit::row::{Auditor, Row, Wants};
+use crate::audit::row::Row;
 use crate::audit::totals::Totals;
 use crate::audit::{csv, date, html, json};
 use crate::command::{Command, Opt, FORCE};
