@@ -132,13 +132,14 @@ fn layout(number: usize, path: &Path, bytes: &[u8], about: &About) -> Option<Str
     let Trailer { vertices, triangles, sizes, mark } = trailer(bytes)?;
     match number {
         12 => Some(format!("{name} ends in {mark}, a sheet file in the mark 21331")),
-        14 if bytes.len() == files::END => Some(format!("{name} is longer than any sheet file")),
         14 => {
             let wanted = 16 * vertices + 12 * triangles + 24;
-            let limits =
-                if vertices > 2_000_000 || triangles > 4_000_000 { ", more than a sheet file may hold" } else { "" };
+            let many = vertices > 2_000_000 || triangles > 4_000_000;
+            let limits = if many { ", more than a sheet file may hold" } else { "" };
             let counts = format!("{vertices} vertices and {triangles} triangles{limits}");
-            Some(format!("{name} says {counts}, which makes {wanted} bytes by document 01; it has {length}"))
+            // of a file that is too long the end alone was read
+            let has = if bytes.len() == files::END { "another length".to_string() } else { length.to_string() };
+            Some(format!("{name} says {counts}, which makes {wanted} bytes by document 01; it has {has}"))
         }
         16 => {
             let (of, volume) = about.volume?;

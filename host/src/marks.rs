@@ -20,8 +20,24 @@ fn turned([a, b, c]: [i32; 3]) -> [i32; 3] {
     [[a, b, c], [b, c, a], [c, a, b]].into_iter().min().unwrap_or([a, b, c])
 }
 
-/// A mark for each triangle of a file; none where there is no sheet to compare with.
-pub fn marks(file: &Sheet, volume: &Volume, start: Option<Place>, room: &mut Room) -> Option<Vec<Mark>> {
+/// A file held against the sheet.
+#[derive(Clone, Debug, Default, PartialEq, Eq)]
+pub struct Marks {
+    /// For each triangle of the file.
+    pub of: Vec<Mark>,
+    /// The sheet's triangles that the file does not hold, by the positions of their corners.
+    pub missing: Vec<[[i32; 3]; 3]>,
+}
+
+impl Marks {
+    /// How many triangles test 18 would refuse.
+    pub fn wrong(&self) -> usize {
+        self.of.iter().filter(|mark| **mark == Mark::Triangle).count()
+    }
+}
+
+/// The marks of a file; none where there is no sheet to compare with.
+pub fn marks(file: &Sheet, volume: &Volume, start: Option<Place>, room: &mut Room) -> Option<Marks> {
     let (built, sheet) = Sheet::build(volume, start, room);
     if built.number != 0 || file.sizes != sheet.sizes {
         return None;
@@ -38,10 +54,11 @@ pub fn marks(file: &Sheet, volume: &Volume, start: Option<Place>, room: &mut Roo
             Mark::Right
         }
     };
-    Some(file.corners().zip(file.by_edges()).map(mark).collect())
-}
-
-/// How many triangles test 18 would refuse.
-pub fn wrong(marks: &[Mark]) -> usize {
-    marks.iter().filter(|mark| **mark == Mark::Triangle).count()
+    let of = file.corners().zip(file.by_edges()).map(mark).collect();
+    let place = |vertex: u32| {
+        let [_, x, y, z] = sheet.record(vertex);
+        [x, y, z]
+    };
+    let absent = sheet.corners().zip(sheet.by_edges()).filter(|(_, edges)| unmet.contains(&turned(*edges)));
+    Some(Marks { of, missing: absent.map(|(corners, _)| corners.map(place)).collect() })
 }

@@ -204,6 +204,15 @@ fn pictures() {
     folder.run("picture sorted.sheet again.png --size 300 --volume tray.vol");
     assert_eq!(folder.get("sorted.png"), folder.get("again.png"));
 
+    let mut sheet = second::parse(&folder.get("pore.sheet")).expect("a sheet");
+    sheet.triangles.truncate(300);
+    folder.put("torn.sheet", &second::serialize(&sheet));
+    let run = folder.run("picture torn.sheet torn.png --size 300 --volume tray.vol");
+    assert!(run.output.contains(" refused 19 0 ") && run.output.ends_with(" wrong 0\n"), "{run:?}");
+    let purple = |[r, g, b]: &[u8; 3]| i32::from(*r.min(b)) - 40 > i32::from(*g);
+    let missing = |name: &str| pixels(&folder.get(name)).1.iter().filter(|pixel| purple(pixel)).count();
+    assert!(missing("torn.png") > 500 && missing("plain.png") == 0 && missing("sorted.png") == 0);
+
     folder.put("l.vol", &listed());
     folder.run("picture pore.sheet x.png --volume l.vol").refused("refused 16 0");
     folder.run("picture l.vol x.png").refused("refused 11 0");

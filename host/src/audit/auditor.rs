@@ -6,7 +6,7 @@ use crate::explain::{found, About};
 use crate::failure::Failure;
 use crate::files;
 use crate::judge::judge;
-use crate::marks::{marks, wrong};
+use crate::marks::marks;
 use crate::picture;
 use crate::room::Room;
 use crate::sheet::Sheet;
@@ -121,9 +121,9 @@ impl Auditor {
             return;
         }
         let marked = row.start.and_then(|start| marks(&sheet, volume, Some(start), &mut self.room));
-        row.wrong = marked.as_deref().map(wrong);
+        row.wrong = marked.as_ref().map(|marks| marks.wrong());
         if self.wants.pictures {
-            row.picture = Some(picture::png(&sheet, marked.as_deref(), PICTURE));
+            row.picture = Some(picture::png(&sheet, marked.as_ref(), PICTURE));
         }
     }
 }

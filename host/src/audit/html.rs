@@ -126,7 +126,7 @@ fn wrong_sheets(rows: &[Row]) -> String {
         _ => None,
     });
     let note = "In the pictures wrong triangles are red, also where others hide them; triangles with a vertex at a wrong position are \
-                orange; where there are few, a ring is round each.";
+                orange; what is missing is purple. Where there are few, a ring is round each.";
     part("Wrong sheets", note, &cards.collect::<String>())
 }
 

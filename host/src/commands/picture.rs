@@ -4,7 +4,7 @@ use crate::explain::{place_text, About};
 use crate::failure::Failure;
 use crate::files;
 use crate::judge::judge;
-use crate::marks::{marks, wrong};
+use crate::marks::marks;
 use crate::picture;
 use crate::refuse::refuse_at;
 use crate::room::Room;
@@ -26,10 +26,11 @@ Draws a sheet, seen from the corner of greatest x, y and z, with z upwards: x ru
 front one, y from the right one to the front one. A surface is blue where it is seen from the air and sand-coloured where it \
 is seen from the solid. The same sheet gives the same bytes.
 
-With --volume a triangle that the check would refuse by itself is red, also where it is hidden behind others, and one with a \
-vertex at a wrong position is orange; where there are few, a ring is round each. The start is taken from the sheet itself \
-where none is named. Prints the counts of vertices and triangles, and with --volume the verdict, the start and the count of \
-wrong triangles. The exit status is that of the drawing, not of the verdict.",
+With --volume a triangle that the check would refuse by itself is red, also where it is hidden behind others; one with a \
+vertex at a wrong position is orange; where nothing is red, what is missing is purple. Where there are few of these, a ring is \
+round each. The start is taken from the sheet itself where none is named. Prints the counts of vertices and triangles, and \
+with --volume the verdict, the start and the count of wrong triangles. The exit status is that of the drawing, not of the \
+verdict.",
     run,
 };
 
@@ -70,9 +71,9 @@ fn run(given: &Given, streams: &mut Streams) -> Result<Ended, Failure> {
             number => format!(" refused {number} {}", verdict.place),
         };
         line += &judged.start.map_or(String::new(), |start| format!(" start {}", place_text(start)));
-        line += &marked.as_ref().map_or(String::new(), |marks| format!(" wrong {}", wrong(marks)));
+        line += &marked.as_ref().map_or(String::new(), |marks| format!(" wrong {}", marks.wrong()));
     }
-    let png = picture::png(&sheet, marked.as_deref(), size);
+    let png = picture::png(&sheet, marked.as_ref(), size);
     files::put(to, &png, given.has(&FORCE), streams)?;
     files::answer(to, &line, streams)?;
     Ok(Ended::Well)

@@ -13,7 +13,7 @@ pub struct Canvas {
     colours: Vec<Colour>,
     /// How near the eye what is seen there is.
     near: Vec<f64>,
-    /// Whether something hidden shines through.
+    /// Whether something was mixed in that lies behind or is not there.
     shines: Vec<bool>,
 }
 
@@ -80,11 +80,23 @@ impl Canvas {
     /// Lets a triangle shine through what stands before it.
     pub fn shine(&mut self, corners: [Point; 3], colour: Colour) {
         self.each(corners, |canvas, at, near| {
-            if near < canvas.near[at] - EVEN && !canvas.shines[at] {
-                canvas.shines[at] = true;
-                canvas.colours[at] = [0, 1, 2].map(|i| 0.45 * canvas.colours[at][i] + 0.55 * colour[i]);
+            if near < canvas.near[at] - EVEN {
+                canvas.blend(at, colour);
             }
         });
+    }
+
+    /// Lays a triangle over everything, so that what is behind it is still seen.
+    pub fn veil(&mut self, corners: [Point; 3], colour: Colour) {
+        self.each(corners, |canvas, at, _| canvas.blend(at, colour));
+    }
+
+    /// Mixes a colour into a pixel, once.
+    fn blend(&mut self, at: usize, colour: Colour) {
+        if !self.shines[at] {
+            self.shines[at] = true;
+            self.colours[at] = [0, 1, 2].map(|i| 0.45 * self.colours[at][i] + 0.55 * colour[i]);
+        }
     }
 
     /// A line two pixels wide, behind everything.

@@ -4,7 +4,7 @@
 mod canvas;
 mod view;
 
-use crate::marks::{wrong, Mark};
+use crate::marks::{Mark, Marks};
 use crate::sheet::Sheet;
 use canvas::{Canvas, Colour};
 use view::{Point, Space, View};
@@ -28,38 +28,41 @@ const FROM_AIR: Colour = [120.0, 158.0, 205.0];
 const FROM_SOLID: Colour = [214.0, 190.0, 140.0];
 const WRONG: Colour = [224.0, 32.0, 32.0];
 const DISPLACED: Colour = [240.0, 150.0, 20.0];
+const MISSING: Colour = [200.0, 40.0, 200.0];
 
 /// The picture as a PNG file, square and so many pixels wide.
-pub fn png(sheet: &Sheet, marks: Option<&[Mark]>, size: usize) -> Vec<u8> {
+pub fn png(sheet: &Sheet, marks: Option<&Marks>, size: usize) -> Vec<u8> {
     encode(&draw(sheet, marks, size), size)
 }
 
 /// The picture as rows of red, green and blue.
-fn draw(sheet: &Sheet, marks: Option<&[Mark]>, size: usize) -> Vec<u8> {
-    let mark = |at: usize| marks.and_then(|marks| marks.get(at)).copied().unwrap_or(Mark::Right);
+fn draw(sheet: &Sheet, marks: Option<&Marks>, size: usize) -> Vec<u8> {
+    let mark = |at: usize| marks.and_then(|marks| marks.of.get(at)).copied().unwrap_or(Mark::Right);
     // thousands of wrong triangles are mostly large, and slow to draw
-    let fineness = if marks.is_some_and(|marks| wrong(marks) > MOST_SHINING) { 1 } else { FINE };
+    let fineness = if marks.is_some_and(|marks| marks.wrong() > MOST_SHINING) { 1 } else { FINE };
     let fine = (size * fineness) as f64;
     let mut canvas = Canvas::new(size * fineness, PAPER);
     let view = frame(sheet, fine, &mut canvas);
     let points: Vec<Point> = sheet.records().map(|[_, x, y, z]| view.seen([x, y, z])).collect();
+    let marked = |wanted: Mark| -> Vec<[Point; 3]> {
+        let own = sheet.corners().enumerate().filter(|(at, _)| mark(*at) == wanted);
+        own.map(|(_, corners)| corners.map(|vertex| points[vertex as usize])).collect()
+    };
     // what is wrong comes last, so that it stands before its equals
-    let marked = |wanted: Mark| sheet.corners().enumerate().filter(move |(at, _)| mark(*at) == wanted);
-    let placed = |corners: [u32; 3]| corners.map(|vertex| points[vertex as usize]);
     for wanted in [Mark::Right, Mark::Vertex, Mark::Triangle] {
-        for (_, corners) in marked(wanted) {
-            canvas.fill(placed(corners), shaded(placed(corners), wanted));
-        }
+        marked(wanted).into_iter().for_each(|corners| canvas.fill(corners, shaded(corners, wanted)));
     }
-    // where there are more, the foremost of them hide whatever is behind
-    for (wanted, colour) in [(Mark::Triangle, WRONG), (Mark::Vertex, DISPLACED)] {
-        for (_, corners) in marked(wanted).take(MOST_SHINING) {
-            canvas.shine(placed(corners), colour);
-        }
+    let (wrong, displaced) = (marked(Mark::Triangle), marked(Mark::Vertex));
+    // a wrong triangle mostly stands for a missing one; where none is wrong, the missing ones are shown
+    let missing = marks.filter(|_| wrong.is_empty()).map_or(&[][..], |marks| &marks.missing);
+    let missing: Vec<[Point; 3]> = missing.iter().map(|corners| corners.map(|at| view.seen(at))).collect();
+    for (corners, colour) in [(&displaced, DISPLACED), (&wrong, WRONG)] {
+        corners.iter().take(MOST_SHINING).for_each(|corners| canvas.shine(*corners, colour));
     }
-    for (wanted, colour) in [(Mark::Vertex, DISPLACED), (Mark::Triangle, WRONG)] {
-        if marked(wanted).count() <= MOST_RINGED {
-            marked(wanted).for_each(|(_, corners)| canvas.ring(middle(placed(corners)), fine / 40.0, colour));
+    missing.iter().for_each(|corners| canvas.veil(*corners, MISSING));
+    for (corners, colour) in [(&missing, MISSING), (&displaced, DISPLACED), (&wrong, WRONG)] {
+        if corners.len() <= MOST_RINGED {
+            corners.iter().for_each(|corners| canvas.ring(middle(*corners), fine / 40.0, colour));
         }
     }
     canvas.reduced(fineness)
@@ -154,8 +157,9 @@ mod tests {
     fn marked_triangles_are_red_also_behind_others() {
         let sheet = pair();
         let plain = draw(&sheet, None, 100);
-        let near = draw(&sheet, Some(&[Mark::Triangle, Mark::Right]), 100);
-        let far = draw(&sheet, Some(&[Mark::Right, Mark::Triangle]), 100);
+        let marked = |of: [Mark; 2]| draw(&sheet, Some(&Marks { of: of.to_vec(), missing: Vec::new() }), 100);
+        let near = marked([Mark::Triangle, Mark::Right]);
+        let far = marked([Mark::Right, Mark::Triangle]);
         assert_eq!(reddish(&plain), 0);
         assert!(reddish(&near) > 300 && reddish(&far) > 300);
         assert!(plain != near && near != far);
@@ -170,6 +174,7 @@ mod tests {
             triangles: vec![0, 1, 2, 1, 1, 1],
             ..sheet
         };
-        assert!(png(&wild, Some(&[Mark::Triangle; 2]), 64).starts_with(b"\x89PNG"));
+        let missing = vec![[[i32::MIN; 3], [0; 3], [i32::MAX; 3]]];
+        assert!(png(&wild, Some(&Marks { of: vec![Mark::Triangle; 2], missing }), 64).starts_with(b"\x89PNG"));
     }
 }
