@@ -16,11 +16,12 @@ fn send(signal: &str, child: &Child) {
     assert!(sent.is_ok());
 }
 
-/// Noise, whose sheet takes a while to build and to write.
+/// Noise, whose sheet takes a while to build and to write; under an emulator less of it does.
 fn noise() -> Vec<u8> {
     let mut random = Random::new(3);
-    let samples: Vec<i16> = (0..40 * 40 * 40).map(|_| random.bits() as i16).collect();
-    volume([40, 40, 40], &samples)
+    let n = if host::abi::EMULATED { 16 } else { 40 };
+    let samples: Vec<i16> = (0..usize::pow(n, 3)).map(|_| random.bits() as i16).collect();
+    volume([n as u16; 3], &samples)
 }
 
 #[test]
