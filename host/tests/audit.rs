@@ -215,6 +215,8 @@ fn csv_manifests_and_byte_order_marks() {
     folder.run("audit m.csv").well(accepted);
     folder.put("bom", b"\xef\xbb\xbfl.vol\tl.sheet\na b.vol\ta b.sheet\t3,0,0");
     folder.run("audit bom").well(accepted);
+    folder.put("wide", b"\xff\xfel\0.\0v\0");
+    folder.run("audit wide").failed_with("wide is in UTF-16: save it as UTF-8");
     folder.put("only.csv", b"volume,sheet\n");
     folder.run("audit only.csv").failed_with("names no sheet");
 }

@@ -59,7 +59,11 @@ fn read(path: &Path, streams: &mut Streams) -> Result<Vec<u8>, Failure> {
         true => files::read_whole(&mut *streams.input, LONGEST),
         false => File::open(path).and_then(|file| files::read_whole(file, LONGEST)),
     };
-    read.map_err(|error| Failure::reading(path, &error))
+    let bytes = read.map_err(|error| Failure::reading(path, &error))?;
+    if bytes.starts_with(b"\xff\xfe") || bytes.starts_with(b"\xfe\xff") {
+        return Err(Failure::File(format!("{} is in UTF-16: save it as UTF-8, or as CSV in UTF-8", shown(path))));
+    }
+    Ok(bytes)
 }
 
 /// The folder that a manifest's names start from.
