@@ -8,6 +8,8 @@ root=$(dirname "$here")
 module=no
 [ "$(uname -m)" = x86_64 ] || module=yes
 [ "$1" != --module ] || { module=yes; shift; }
+# proves what the library needs several crates at a time, where rt staticlib would prove one after another
+(cd "$root" && rt check cabi) >&2
 if [ $module = yes ]; then
     sh "$here/native/library.sh" >&2
     CARGO_TARGET_DIR=$root/target/native/cargo
