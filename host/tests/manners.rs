@@ -84,22 +84,26 @@ fn audits_hit_by_signals_leave_no_report() {
     }
 }
 
+/// A shell line that becomes the tool, which waits for its standard input; then HUP is sent.
+fn hung_up(line: &str) -> Child {
+    let shell = Command::new("sh").args(["-c", line, "sh", TOOL]).stdin(Stdio::piped()).stdout(Stdio::piped()).spawn();
+    let child = shell.expect("a shell");
+    let name = || fs::read_to_string(format!("/proc/{}/comm", child.id())).unwrap_or_default();
+    let limit = Instant::now() + Duration::from_secs(20);
+    while name() != "malxuqeed\n" && Instant::now() < limit {
+        std::thread::sleep(Duration::from_millis(5));
+    }
+    std::thread::sleep(Duration::from_millis(100));
+    send("HUP", &child);
+    std::thread::sleep(Duration::from_millis(50));
+    child
+}
+
 #[test]
 fn a_signal_that_was_ignored_stays_ignored() {
-    let folder = Folder::new("ignored");
-    let waiting = |line: &str| {
-        let child =
-            Command::new("sh").args(["-c", line, "sh", TOOL]).stdin(Stdio::piped()).stdout(Stdio::piped()).spawn();
-        let child = child.expect("a shell");
-        std::thread::sleep(Duration::from_millis(150));
-        send("HUP", &child);
-        std::thread::sleep(Duration::from_millis(50));
-        child
-    };
-    drop(folder);
-    let ended = waiting("trap '' HUP; exec \"$1\" list").wait_with_output().expect("it ends");
+    let ended = hung_up("trap '' HUP; exec \"$1\" list 2>/dev/null").wait_with_output().expect("it ends");
     assert_eq!(Run::of(ended).output, "refused 1\n");
-    let ended = waiting("exec \"$1\" list").wait_with_output().expect("it ends");
+    let ended = hung_up("exec \"$1\" list").wait_with_output().expect("it ends");
     assert_eq!(ended.status.signal(), Some(1));
 }
 
