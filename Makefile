@@ -1,31 +1,59 @@
-# make test:   the gate.
-# make demo:   builds what it needs, makes a synthetic tray, builds, checks, lists and audits its sheets.
-# make trials: the proved library and the tool against the second mesher, on random input.
-# make bench:  the proved library beside a hand-written C mesher.
-# make fuzz:   random and mutated input, for ten minutes.
-# make memory: the same under valgrind, 20,000 rounds.
-.PHONY: test host trials demo bench fuzz memory
+# A bare make prints this list, which is made from the lines that begin with two number signs.
+PREFIX ?= /usr/local
 
+# This processor's own code: the library as it is on x86-64, its module compiled for any other processor.
+ifeq ($(shell uname -m),x86_64)
+PROGRAMS = host/target/release
+LIBRARY = target/staticlib/libcabi.a
+else
+PROGRAMS = target/native/cargo/release
+LIBRARY = target/native/libcabi.a
+endif
+
+.PHONY: help tool install demo test host trials bench fuzz memory page
+
+help:
+	@sed -n 's/^## //p' Makefile
+
+## make tool      the tool and the library, proved and built for this processor
+tool:
+	@sh host/quietly.sh target/tool.log 'Proving and compiling the library, building the tool (some minutes at first)' \
+		sh host/own.sh true
+
+## make install   the tool, library, header, man page and completion, below PREFIX (/usr/local)
+install: tool
+	sh host/install.sh $(PROGRAMS) $(LIBRARY) $(PREFIX)
+
+## make demo      a tray from scan to audit, with the fault that this is for
+demo: tool
+	sh host/demo.sh $(PROGRAMS)
+
+## make test      the gate: every proof, every must-fail edit, every program, then the host's tests
 test:
 	bash .ci/run
 
-# The tool and its trials, over the proved library.
+# The tool and its trials, over the proved library itself.
 host:
 	rt staticlib cabi
 	sh host/cargo.sh build --workspace
 
+## make trials    the proved library and the tool against the second mesher, on random input
 trials: host
 	sh host/cargo.sh test --workspace
 
-demo: host
-	sh host/demo.sh
-
+## make bench     the proved library beside a hand-written C mesher, and the audit of 10,000 sheets
 bench:
-	sh host/own.sh bench
+	sh host/own.sh sh -c 'bench && sh host/audit-rate.sh'
 
+## make page      an audit's page opened in a browser (Debian's chromium), as a picture
+page: tool
+	sh host/page.sh $(PROGRAMS)
+
+## make fuzz      random and mutated input, for ten minutes
 fuzz: host
 	host/target/release/fuzz 10m
 
+## make memory    the same under valgrind, 20,000 rounds
 memory:
 	command -v valgrind >/dev/null || { apt-get update -qq && apt-get install -y -qq valgrind; }
 	sh host/own.sh valgrind -q --error-exitcode=9 fuzz 20000

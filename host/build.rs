@@ -1,7 +1,9 @@
-//! Links the proved library, target/staticlib/libcabi.a of the repository, or the one that MALXUQEED_LIBRARY names.
+//! Links the proved library, target/staticlib/libcabi.a of the repository. No other one can be named, so what is tested and
+//! installed is what was proved.
 //!
 //! The library is compiled for x86-64. On another processor it cannot be linked into a Rust program: it is then linked
 //! with bridge/serve.c into a small x86-64 program, by the compiler of the Rattle kit, and run under the kit's emulator.
+//! With the feature `own` the library's module, compiled for this processor (native/library.sh), is linked instead.
 
 use std::path::{Path, PathBuf};
 use std::process::{exit, Command, Stdio};
@@ -10,14 +12,15 @@ fn main() {
     println!("cargo:rustc-check-cfg=cfg(emulated)");
     println!("cargo:rerun-if-changed=build.rs");
     println!("cargo:rerun-if-changed=bridge/serve.c");
-    println!("cargo:rerun-if-env-changed=MALXUQEED_LIBRARY");
-    let archive = match std::env::var_os("MALXUQEED_LIBRARY") {
-        Some(archive) => PathBuf::from(archive),
-        None => Path::new(env!("CARGO_MANIFEST_DIR")).join("../target/staticlib/libcabi.a"),
-    };
+    let own = std::env::var_os("CARGO_FEATURE_OWN").is_some();
+    let target = Path::new(env!("CARGO_MANIFEST_DIR")).join("../target");
+    let archive = target.join(if own { "native" } else { "staticlib" }).join("libcabi.a");
     println!("cargo:rerun-if-changed={}", archive.display());
     let Ok(bytes) = std::fs::read(&archive) else {
-        stop("target/staticlib/libcabi.a is missing: run `rt staticlib cabi` in the repository's root");
+        match own {
+            true => stop("target/native/libcabi.a is missing: run `sh host/native/library.sh`"),
+            false => stop("target/staticlib/libcabi.a is missing: run `rt staticlib cabi` in the repository's root"),
+        }
     };
     let here = std::env::var("CARGO_CFG_TARGET_ARCH").unwrap_or_default();
     if machine(&bytes) == Some(here.as_str()) {

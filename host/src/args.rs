@@ -1,26 +1,76 @@
 //! The command line.
 
 use crate::abi::Place;
-use crate::failure::Failure;
-use std::ffi::OsString;
+use crate::command::{Command, Opt};
+use crate::commands::{help, version, COMMANDS};
+use crate::failure::{escaped, Failure};
+use std::ffi::{OsStr, OsString};
 use std::os::unix::ffi::OsStrExt;
-use std::path::{Path, PathBuf};
+use std::path::Path;
 
-#[derive(Debug, PartialEq, Eq)]
-pub enum Command {
-    Help(&'static str),
-    Build { volume: PathBuf, sheet: PathBuf, start: Option<Place> },
-    Check { volume: PathBuf, sheet: PathBuf, start: Option<Place> },
-    List { volume: Option<PathBuf>, start: Option<Place> },
-    Show { sheet: PathBuf },
-    Audit { manifest: PathBuf },
+/// What stands behind a command.
+#[derive(Debug, Default)]
+pub struct Given {
+    names: Vec<OsString>,
+    options: Vec<(&'static str, OsString)>,
 }
 
-/// X,Y,Z: three whole numbers from 0. One too large for a word names no cube either way, so it is cut to the largest.
-pub fn start(text: &[u8]) -> Option<Place> {
+/// Where a sheet starts.
+#[derive(Clone, Copy, Debug, PartialEq, Eq)]
+pub enum Start {
+    /// None is named: document 01's default.
+    Unnamed,
+    Cube(Place),
+    /// By the sheet itself.
+    Auto,
+}
+
+impl Start {
+    /// As the library takes it; `Auto` has to be settled before.
+    pub fn named(self) -> Option<Place> {
+        match self {
+            Start::Cube(place) => Some(place),
+            Start::Unnamed | Start::Auto => None,
+        }
+    }
+}
+
+impl Given {
+    /// A name that must be there; parsing has seen to that.
+    pub fn name(&self, at: usize) -> &Path {
+        self.names.get(at).map_or(Path::new(""), Path::new)
+    }
+
+    pub fn maybe(&self, at: usize) -> Option<&Path> {
+        self.names.get(at).map(Path::new)
+    }
+
+    pub fn has(&self, option: &Opt) -> bool {
+        self.get(option).is_some()
+    }
+
+    pub fn get(&self, option: &Opt) -> Option<&OsStr> {
+        self.options.iter().find(|(name, _)| *name == option.name).map(|(_, value)| value.as_os_str())
+    }
+
+    /// The start that `--start` names.
+    pub fn start(&self, option: &Opt) -> Result<Start, Failure> {
+        let Some(value) = self.get(option) else { return Ok(Start::Unnamed) };
+        if value == "auto" && option.value.ends_with("auto") {
+            return Ok(Start::Auto);
+        }
+        match triple(value.as_bytes()) {
+            Some([x, y, z]) => Ok(Start::Cube(Place { x, y, z })),
+            None => usage(format!("--start takes {}: three whole numbers from 0, parted by commas", option.value)),
+        }
+    }
+}
+
+/// Three whole numbers from 0, parted by commas. One too large for a word is cut to the largest, which is as far out.
+pub fn triple(text: &[u8]) -> Option<[usize; 3]> {
     let mut fields = text.split(|&byte| byte == b',').map(number);
     match (fields.next(), fields.next(), fields.next(), fields.next()) {
-        (Some(Some(x)), Some(Some(y)), Some(Some(z)), None) => Some(Place { x, y, z }),
+        (Some(Some(x)), Some(Some(y)), Some(Some(z)), None) => Some([x, y, z]),
         _ => None,
     }
 }
@@ -33,130 +83,126 @@ fn number(text: &[u8]) -> Option<usize> {
     Some(text.iter().fold(0, digit))
 }
 
-/// What stands behind a command: names and the option.
-#[derive(Default)]
-struct Rest {
-    names: Vec<PathBuf>,
-    start: Option<Place>,
-    help: bool,
-}
-
-fn usage<T>(text: impl Into<String>) -> Result<T, Failure> {
+pub fn usage<T>(text: impl Into<String>) -> Result<T, Failure> {
     Err(Failure::Usage(text.into()))
 }
 
-fn rest(args: &[OsString], takes_start: bool) -> Result<Rest, Failure> {
-    let mut rest = Rest::default();
-    let mut args = args.iter();
+/// The value of an option: behind its equals sign, or the next word.
+fn value<'a>(
+    option: &Opt,
+    behind: Option<&[u8]>,
+    words: &mut impl Iterator<Item = &'a OsString>,
+) -> Result<OsString, Failure> {
+    match (option.value, behind) {
+        ("", None) => Ok(OsString::new()),
+        ("", Some(_)) => usage(format!("{} takes no value", option.name)),
+        (_, Some(value)) => Ok(OsStr::from_bytes(value).to_os_string()),
+        (shape, None) => words.next().cloned().map_or_else(|| usage(format!("{} takes {shape}", option.name)), Ok),
+    }
+}
+
+/// What stands behind a command's name; nothing where help is asked for.
+fn given(command: &Command, words: &[OsString]) -> Result<Option<Given>, Failure> {
+    let mut given = Given::default();
+    let mut words = words.iter();
     let mut options = true;
-    while let Some(arg) = args.next() {
-        let bytes = arg.as_bytes();
+    let mut help = false;
+    while let Some(word) = words.next() {
+        let bytes = word.as_bytes();
         if !options || !bytes.starts_with(b"-") || bytes == b"-" {
-            rest.names.push(PathBuf::from(arg));
+            given.names.push(word.clone());
         } else if bytes == b"--" {
             options = false;
         } else if bytes == b"--help" || bytes == b"-h" {
-            rest.help = true;
-        } else if takes_start && (bytes == b"--start" || bytes.starts_with(b"--start=")) {
-            let value = match bytes.strip_prefix(b"--start=") {
-                Some(value) => value,
-                None => args.next().map_or(&b""[..], |next| next.as_bytes()),
-            };
-            let Some(place) = start(value) else {
-                return usage("--start takes X,Y,Z: three whole numbers from 0, parted by commas");
-            };
-            if rest.start.replace(place).is_some() {
-                return usage("--start is given twice");
-            }
+            help = true;
         } else {
-            return usage(format!("there is no option {}", Path::new(arg).display()));
+            let at = bytes.iter().position(|&byte| byte == b'=');
+            let (name, behind) = at.map_or((bytes, None), |at| (&bytes[..at], Some(&bytes[at + 1..])));
+            let Some(option) = command.option(name) else {
+                return usage(format!("{} has no option {}", command.name, escaped(&word.to_string_lossy())));
+            };
+            if given.has(option) {
+                return usage(format!("{} is given twice", option.name));
+            }
+            given.options.push((option.name, value(option, behind, &mut words)?));
         }
     }
-    Ok(rest)
+    if help {
+        return Ok(None);
+    }
+    let (least, most, count) = (command.least(), command.names.len(), given.names.len());
+    if count < least || count > most {
+        return usage(format!("{count} names are given, wanted is: malxuqeed {}", command.usage()));
+    }
+    if let Some(option) = command.options.iter().find(|option| option.needed && !given.has(option)) {
+        return usage(format!("{} is missing, wanted is: malxuqeed {}", option.shape(), command.usage()));
+    }
+    Ok(Some(given))
 }
 
-/// Takes exactly the names that a command has.
-fn names<const N: usize>(rest: Rest, wanted: &str) -> Result<[PathBuf; N], Failure> {
-    let count = rest.names.len();
-    rest.names.try_into().or_else(|_| usage(format!("{wanted} wanted, {count} given")))
-}
-
-pub fn parse(args: &[OsString]) -> Result<Command, Failure> {
+/// The command of a command line, and what is given to it.
+pub fn parse(args: &[OsString]) -> Result<(&'static Command, Given), Failure> {
     let Some((name, behind)) = args.split_first() else {
         return usage("no command is given");
     };
-    let help = crate::help::text(name.to_str());
-    let takes_start = match name.to_str() {
-        Some("build" | "check" | "list") => true,
-        Some("show" | "audit") => false,
-        Some("--help" | "-h") => return Ok(Command::Help(help)),
-        _ => return usage(format!("there is no command {}", Path::new(name).display())),
+    let command = match name.to_str() {
+        Some("--help" | "-h") => return Ok((&help::COMMAND, Given::default())),
+        Some("--version") => return Ok((&version::COMMAND, Given::default())),
+        Some(name) => COMMANDS.iter().find(|command| command.name == name),
+        None => None,
     };
-    let rest = rest(behind, takes_start)?;
-    if rest.help {
-        return Ok(Command::Help(help));
-    }
-    let start = rest.start;
-    match name.to_str() {
-        Some("build") => {
-            names(rest, "a VOLUME and a SHEET are").map(|[volume, sheet]| Command::Build { volume, sheet, start })
-        }
-        Some("check") => {
-            names(rest, "a VOLUME and a SHEET are").map(|[volume, sheet]| Command::Check { volume, sheet, start })
-        }
-        Some("list") if rest.names.is_empty() => Ok(Command::List { volume: None, start }),
-        Some("list") => {
-            names(rest, "at most one VOLUME is").map(|[volume]| Command::List { volume: Some(volume), start })
-        }
-        Some("show") => names(rest, "one SHEET is").map(|[sheet]| Command::Show { sheet }),
-        _ => names(rest, "one MANIFEST is").map(|[manifest]| Command::Audit { manifest }),
+    let Some(command) = command else {
+        return usage(format!("there is no command {}", escaped(&name.to_string_lossy())));
+    };
+    match given(command, behind)? {
+        Some(given) => Ok((command, given)),
+        None => Ok((&help::COMMAND, Given { names: vec![command.name.into()], options: Vec::new() })),
     }
 }
 
 #[cfg(test)]
 mod tests {
     use super::*;
+    use crate::command::{START, START_OR_AUTO};
 
-    fn parsed(line: &str) -> Result<Command, Failure> {
+    fn parsed(line: &str) -> Result<(&'static Command, Given), Failure> {
         parse(&line.split_whitespace().map(OsString::from).collect::<Vec<_>>())
     }
 
     #[test]
-    fn starts() {
-        assert_eq!(start(b"1,20,3"), Some(Place { x: 1, y: 20, z: 3 }));
-        assert_eq!(start(b"99999999999999999999999,0,0"), Some(Place { x: usize::MAX, y: 0, z: 0 }));
+    fn triples() {
+        assert_eq!(triple(b"1,20,3"), Some([1, 20, 3]));
+        assert_eq!(triple(b"99999999999999999999999,0,0"), Some([usize::MAX, 0, 0]));
         for wrong in ["", ",", "1,2", "1,2,3,4", "1,2,", "-1,2,3", "+1,2,3", "1, 2,3", "a,b,c", "1.0,2,3"] {
-            assert_eq!(start(wrong.as_bytes()), None, "{wrong}");
+            assert_eq!(triple(wrong.as_bytes()), None, "{wrong}");
         }
     }
 
     #[test]
-    fn commands() {
-        let (volume, sheet) = (PathBuf::from("v"), PathBuf::from("s"));
-        let place = Some(Place { x: 1, y: 2, z: 3 });
+    fn names_and_options() {
         for line in ["build v s --start 1,2,3", "build --start=1,2,3 v s", "build --start 1,2,3 -- v s"] {
-            let expected = Command::Build { volume: volume.clone(), sheet: sheet.clone(), start: place };
-            assert_eq!(parsed(line).ok(), Some(expected));
+            let (command, given) = parsed(line).expect("a good line");
+            assert_eq!((command.name, given.name(0), given.name(1)), ("build", Path::new("v"), Path::new("s")));
+            assert_eq!(given.start(&START).ok(), Some(Start::Cube(Place { x: 1, y: 2, z: 3 })));
         }
-        assert_eq!(parsed("list").ok(), Some(Command::List { volume: None, start: None }));
-        assert_eq!(parsed("show -- --help").ok(), Some(Command::Show { sheet: PathBuf::from("--help") }));
-        assert!(matches!(parsed("audit x --help"), Ok(Command::Help(text)) if text.starts_with("malxuqeed audit")));
+        let (_, given) = parsed("check v s --start auto").expect("a good line");
+        assert_eq!(given.start(&START_OR_AUTO).ok(), Some(Start::Auto));
+        assert!(given.start(&START).is_err());
+        assert_eq!(parsed("list").map(|(_, given)| given.maybe(0).is_none()).ok(), Some(true));
+        assert_eq!(parsed("show -- --help").map(|(_, given)| given.name(0) == Path::new("--help")).ok(), Some(true));
+        let asked =
+            parsed("audit x --help").map(|(command, given)| (command.name, given.name(0) == Path::new("audit")));
+        assert_eq!(asked.ok(), Some(("help", true)));
     }
 
     #[test]
     fn wrong_usage() {
-        for line in ["", "bild", "build", "build v", "build v s x", "check v s --start", "check v s --start 1,2"] {
+        for line in ["", "bild", "build", "build v", "build v s x", "check v s --start", "build v s --force=1"] {
             assert!(matches!(parsed(line), Err(Failure::Usage(_))), "{line}");
         }
-        for line in [
-            "list a b",
-            "show",
-            "show s --start 1,2,3",
-            "audit",
-            "audit a b",
-            "list --no",
-            "list --start=1,1,1 --start=1,1,1",
-        ] {
+        let more =
+            ["list a b", "show", "show s --start 1,2,3", "audit", "audit a b", "list --no", "from-raw a b --level 3"];
+        for line in more.into_iter().chain(["list --start=1,1,1 --start=1,1,1"]) {
             assert!(matches!(parsed(line), Err(Failure::Usage(_))), "{line}");
         }
     }

@@ -1,10 +1,22 @@
-//! `malxuqeed`: builds, checks, lists, shows and audits sheets.
+//! `malxuqeed`: builds, checks, lists, shows, draws and audits sheets.
 
-use host::tool::{run, Streams};
+use host::signals;
+use host::streams::Streams;
+use host::tool::run;
 use std::io::{self, BufWriter, IsTerminal};
 use std::process::ExitCode;
 
+mod closed;
+
 fn main() -> ExitCode {
+    if closed::output_was_closed() {
+        eprintln!("malxuqeed: standard output is closed, so no answer could be given; nothing was done");
+        return ExitCode::from(2);
+    }
+    if let Err(error) = signals::watch() {
+        eprintln!("malxuqeed: signals cannot be watched for: {error}");
+        return ExitCode::from(2);
+    }
     let args: Vec<_> = std::env::args_os().skip(1).collect();
     let status = run(
         &args,

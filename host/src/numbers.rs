@@ -1,44 +1,141 @@
-//! The refusal numbers of document 01 in plain words.
+//! The refusal numbers in plain words: the one table that the tool's sentences, the audit's page, the man page and the C
+//! header's enum are made from.
 
-pub fn meaning(number: usize) -> &'static str {
-    match number {
-        0 => "all is well",
-        1 => "an axis has fewer than 2 or more than 64 samples",
-        2 => "the volume does not hold exactly as many samples as its sizes ask for",
-        3 => "the work room that was lent is too short",
-        4 => "the start that was named is not a cube of the lattice",
-        5 => "the surface does not pass through the start cube, or, where none was named, through any cube",
-        6 => "the sheet has more vertices than there is room for",
-        7 => "the sheet has more triangles than there is room for",
-        8 => "the bytes that were lent are too few for the sheet file",
-        9 => "a count is larger than what was given, or than a sheet file may hold",
-        11 => "the sheet file is shorter than its 24-byte trailer",
-        12 => "the sheet file does not end in the mark of a sheet file",
-        14 => "the counts, distances and length of the sheet file do not fit together",
-        15 => "a triangle of the sheet file names a vertex that is not there",
-        16 => "the sheet file is of a lattice with other sizes than the volume",
-        17 => "a vertex of the sheet file is not on this surface, is at the wrong position, or comes twice",
-        18 => "a triangle of the sheet file is not on this surface, faces the wrong way, or comes twice",
-        19 => "a vertex or a triangle of this surface is missing from the sheet file",
-        _ => "a number that document 01 does not name",
-    }
+pub struct Number {
+    pub number: usize,
+    /// Its name in the C header, behind MALXUQEED_.
+    pub name: &'static str,
+    pub means: &'static str,
+    /// Likely causes and what to do.
+    pub remedy: &'static str,
+    /// What the place beside the number counts, where it counts something.
+    pub place: Option<&'static str>,
 }
 
-/// What the place beside a number counts, where it counts something.
-pub fn place_of(number: usize) -> Option<&'static str> {
-    match number {
-        15 | 18 => Some("triangle"),
-        17 => Some("vertex record"),
-        _ => None,
-    }
+const fn row(number: usize, name: &'static str, means: &'static str, remedy: &'static str) -> Number {
+    Number { number, name, means, remedy, place: None }
 }
 
-/// A whole sentence for a refusal.
-pub fn sentence(number: usize, place: usize) -> String {
-    match place_of(number) {
-        Some(what) => format!("refused {number}: {} (the first is {what} {place}, counted from 0).", meaning(number)),
-        None => format!("refused {number}: {}.", meaning(number)),
-    }
+const fn placed(
+    number: usize,
+    name: &'static str,
+    place: &'static str,
+    means: &'static str,
+    remedy: &'static str,
+) -> Number {
+    Number { number, name, means, remedy, place: Some(place) }
+}
+
+pub const NUMBERS: [Number; 17] = [
+    row(
+        1,
+        "AXIS",
+        "an axis has fewer than 2 or more than 64 samples",
+        "Look at the sizes at the front of the volume (or at the end of the sheet): a header of another program, the other \
+         byte order or a larger scan gives such sizes. A larger scan is cut into volumes of up to 64 samples an axis first.",
+    ),
+    row(
+        2,
+        "SAMPLES",
+        "the volume does not hold exactly as many samples as its sizes ask for",
+        "Copy the volume again if it was cut short; if it has a header or a tail of another program, make it anew with \
+         'malxuqeed from-raw'.",
+    ),
+    row(
+        3,
+        "WORK",
+        "a lent work slice is too short",
+        "Lend cube words and a waiting list as long as there are cubes, and seven edge slots a sample.",
+    ),
+    row(
+        4,
+        "START",
+        "the named start is not a cube of the lattice",
+        "A lattice has one cube fewer than samples on each axis, counted from 0: name a cube within it, or take the start \
+         from the sheet with --start auto.",
+    ),
+    row(
+        5,
+        "NOT_CROSSED",
+        "the surface does not pass through the start cube, or, where none was named, through any cube",
+        "'malxuqeed info' lists starts of every surface of a volume; if it lists none, the level or the sign of the samples \
+         is wrong: air is above 0, solid is 0 and below.",
+    ),
+    row(6, "VERTEX_ROOM", "the sheet has more vertices than there is room for", "Lend room for as many vertices as the answer counts."),
+    row(7, "TRIANGLE_ROOM", "the sheet has more triangles than there is room for", "Lend room for as many triangles as the answer counts."),
+    row(8, "BYTES", "the lent bytes are too few for the file", "Lend 16 bytes a vertex, 12 a triangle and 24 more."),
+    row(
+        9,
+        "COUNT",
+        "a count is larger than what was given, or than a sheet file may hold",
+        "Give counts within the slices, at most 2,000,000 vertices and 4,000,000 triangles.",
+    ),
+    row(
+        11,
+        "SHORT",
+        "the sheet file is shorter than its 24-byte trailer",
+        "The file was cut short, or is no sheet file: fetch it again from the archive, or build it anew.",
+    ),
+    row(
+        12,
+        "MARK",
+        "the file does not end in the mark of a sheet file",
+        "It was cut short, something was added behind it, or it is no sheet file: fetch it again from the archive, or build it \
+         anew.",
+    ),
+    row(
+        14,
+        "LAYOUT",
+        "the counts, distances and length of the sheet file do not fit together",
+        "The file was cut short, joined with another or damaged: fetch it again from the archive, or build it anew.",
+    ),
+    placed(
+        15,
+        "INDEX",
+        "triangle",
+        "a triangle of the sheet file names a vertex that is not there",
+        "The file is damaged, or its writer dropped vertices without renumbering triangles: do not use figures taken from it; \
+         build the sheet anew.",
+    ),
+    row(
+        16,
+        "SIZES",
+        "the sheet file is of a lattice with other sizes than the volume",
+        "The sheet belongs to another volume: look for the right one, or build the sheet anew from this one.",
+    ),
+    placed(
+        17,
+        "VERTEX",
+        "vertex record",
+        "a vertex of the sheet file is not on this surface, is at the wrong position, or comes twice",
+        "Likely causes: the sheet is of another surface (try --start auto), of another scan or of another grey level; its \
+         writer rounds positions differently; or the file is damaged. If the volume and the start are right, do not use figures \
+         taken from it; build the sheet anew.",
+    ),
+    placed(
+        18,
+        "TRIANGLE",
+        "triangle",
+        "a triangle of the sheet file is not on this surface, faces the wrong way, or comes twice",
+        "Likely causes: the vertices were sorted or joined without renumbering the triangles; the axes are mirrored; a piece \
+         was written twice; or the file is damaged. Do not use figures taken from it, though it may look closed; build the \
+         sheet anew.",
+    ),
+    row(
+        19,
+        "ABSENT",
+        "a vertex or a triangle of this surface is missing from the sheet file",
+        "Likely causes: the sheet was thinned, repaired or cut, or its writer stopped early. Do not use figures taken \
+         from it; build the sheet anew.",
+    ),
+];
+
+pub fn number(number: usize) -> Option<&'static Number> {
+    NUMBERS.iter().find(|row| row.number == number)
+}
+
+pub fn meaning(of: usize) -> &'static str {
+    number(of).map_or("a number that document 01 does not name", |row| row.means)
 }
 
 #[cfg(test)]
@@ -46,17 +143,13 @@ mod tests {
     use super::*;
 
     #[test]
-    fn every_number_of_the_table_has_words() {
-        let unnamed = meaning(usize::MAX);
-        for number in (1..=19).filter(|number| ![10, 13].contains(number)) {
-            assert_ne!(meaning(number), unnamed, "{number}");
+    fn every_number_of_document_01_has_words() {
+        let numbers: Vec<usize> = NUMBERS.iter().map(|row| row.number).collect();
+        assert_eq!(numbers, (1..=19).filter(|number| ![10, 13].contains(number)).collect::<Vec<_>>());
+        for row in &NUMBERS {
+            assert!(!row.means.ends_with('.') && row.remedy.ends_with('.'), "{}", row.number);
         }
-        assert_eq!([meaning(10), meaning(13), meaning(20)], [unnamed; 3]);
-    }
-
-    #[test]
-    fn a_place_is_told_where_it_counts_something() {
-        assert!(sentence(17, 3).contains("vertex record 3"));
-        assert!(!sentence(19, 0).contains('0'));
+        let placed: Vec<usize> = NUMBERS.iter().filter(|row| row.place.is_some()).map(|row| row.number).collect();
+        assert_eq!(placed, [15, 17, 18]);
     }
 }

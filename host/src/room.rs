@@ -2,7 +2,7 @@
 
 use crate::abi::{Sizes, Work};
 
-fn fits(sizes: Sizes) -> bool {
+pub fn fits(sizes: Sizes) -> bool {
     [sizes.nx, sizes.ny, sizes.nz].iter().all(|axis| (2..=64).contains(axis))
 }
 

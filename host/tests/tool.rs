@@ -1,112 +1,12 @@
 //! The tool as a process: what it prints, its exit status, and the files it leaves.
 
+mod common;
+
+use common::{listed, pair, volume, Folder, Run, TOOL};
 use std::fs::{self, File};
 use std::io::{Read, Seek, SeekFrom, Write};
-use std::path::{Path, PathBuf};
-use std::process::{Command, Output, Stdio};
-
-const TOOL: &str = env!("CARGO_BIN_EXE_malxuqeed");
-
-/// A folder of a test, gone when the test ends.
-struct Folder(PathBuf);
-
-impl Folder {
-    fn new(name: &str) -> Folder {
-        let path = std::env::temp_dir().join(format!("malxuqeed-tool-{}-{name}", std::process::id()));
-        fs::create_dir(&path).expect("a new folder");
-        Folder(path)
-    }
-
-    fn put(&self, name: &str, bytes: &[u8]) {
-        fs::write(self.0.join(name), bytes).expect("a file");
-    }
-
-    fn get(&self, name: &str) -> Vec<u8> {
-        fs::read(self.0.join(name)).expect("a file")
-    }
-
-    fn names(&self) -> Vec<String> {
-        let entries = fs::read_dir(&self.0).expect("the folder");
-        let mut names: Vec<String> =
-            entries.flatten().map(|entry| entry.file_name().to_string_lossy().into()).collect();
-        names.sort();
-        names
-    }
-
-    /// Runs the tool here, on words parted by spaces and with an empty standard input.
-    fn run(&self, line: &str) -> Run {
-        self.run_words(&line.split(' ').filter(|word| !word.is_empty()).collect::<Vec<_>>())
-    }
-
-    fn run_words(&self, words: &[&str]) -> Run {
-        Run::of(
-            Command::new(TOOL).args(words).current_dir(&self.0).stdin(Stdio::null()).output().expect("the tool runs"),
-        )
-    }
-
-    /// Runs a shell line here, with the tool as $1.
-    fn shell(&self, line: &str) -> Run {
-        let shell = Command::new("sh").args(["-c", line, "sh", TOOL]).current_dir(&self.0).output();
-        Run::of(shell.expect("a shell"))
-    }
-}
-
-impl Drop for Folder {
-    fn drop(&mut self) {
-        let _ = fs::remove_dir_all(&self.0);
-    }
-}
-
-#[derive(Debug)]
-struct Run {
-    status: Option<i32>,
-    output: String,
-    errors: String,
-}
-
-impl Run {
-    fn of(output: Output) -> Run {
-        Run {
-            status: output.status.code(),
-            output: String::from_utf8_lossy(&output.stdout).into(),
-            errors: String::from_utf8_lossy(&output.stderr).into(),
-        }
-    }
-
-    /// Succeeded, printed exactly this and said nothing.
-    fn well(&self, output: &str) {
-        assert_eq!((self.status, self.output.as_str(), self.errors.as_str()), (Some(0), output, ""));
-    }
-
-    /// Refused with exactly this line, and one sentence on standard error.
-    fn refused(&self, line: &str) {
-        assert_eq!((self.status, self.output.trim_end()), (Some(1), line), "{self:?}");
-        assert_eq!(self.errors.lines().count(), 1, "{self:?}");
-    }
-
-    /// Failed with status 2, printed nothing, and said why.
-    fn failed(&self) {
-        assert_eq!((self.status, self.output.as_str()), (Some(2), ""), "{self:?}");
-        assert!(self.errors.starts_with("malxuqeed: "), "{self:?}");
-    }
-}
-
-fn volume(sizes: [u16; 3], samples: &[i16]) -> Vec<u8> {
-    let head = sizes.iter().flat_map(|axis| axis.to_le_bytes());
-    head.chain(samples.iter().flat_map(|sample| sample.to_le_bytes())).collect()
-}
-
-/// Document 01's listing.
-fn listed() -> Vec<u8> {
-    volume([2, 2, 2], &[3, -1, -1, -1, -1, -1, -1, -1])
-}
-
-/// Document 01's 5x2x2 with two air samples.
-fn pair() -> Vec<u8> {
-    let mut samples = [-1; 20];
-    (samples[0], samples[4]) = (1, 1);
-    volume([5, 2, 2], &samples)
-}
+use std::path::Path;
+use std::process::{Command, Stdio};
 
 const LINES: &str = "v 0 49152 0 0\nv 1 0 49152 0\nv 2 0 0 49152\nt 1 2 0\n";
 
@@ -135,8 +35,8 @@ fn build_check_show() {
     assert_eq!(folder.names(), ["l.raw", "l.sheet"]);
 
     folder.put("p.raw", &pair());
-    folder.run("build p.raw a.sheet --start 0,0,0").well("3 1 1\n");
-    folder.run("build p.raw b.sheet --start 3,0,0").well("5 3 1\n");
+    folder.run("build p.raw a.sheet --start 0,0,0").told("3 1 1\n", "the next one is built with --start 3,0,0\n");
+    folder.run("build p.raw b.sheet --start 3,0,0").told("5 3 1\n", "1 crossed cubes are not on this sheet");
     folder.run("build --start 1,0,0 p.raw b.sheet").refused("refused 5");
     folder.run("build p.raw b.sheet --start 4,0,0").refused("refused 4");
     folder.run("build p.raw b.sheet --start 99999999999999999999,0,0").refused("refused 4");
@@ -319,47 +219,6 @@ fn files_of_any_length() {
     folder.run("audit zeros.sheet").failed();
     folder.run("list /dev/zero").refused("refused 1");
     folder.run("show /dev/zero").failed();
-}
-
-#[test]
-fn audit() {
-    let folder = Folder::new("audit");
-    folder.put("l.raw", &listed());
-    folder.put("a b.raw", &pair());
-    folder.run("build l.raw l.sheet").well("3 1 1\n");
-    folder.run_words(&["build", "a b.raw", "a b.sheet", "--start", "3,0,0"]).well("5 3 1\n");
-    let mut moved = folder.get("l.sheet");
-    moved[4] ^= 1;
-    folder.put("moved.sheet", &moved);
-
-    folder.put("good", b"# all good\nl.raw l.sheet\n\na b.raw\ta b.sheet\t3,0,0\r\n");
-    folder.run("audit good").well(
-        "accepted l.raw l.sheet\naccepted a b.raw\ta b.sheet\t3,0,0\nsheets 2, accepted 2, refused 0, not read 0\n",
-    );
-
-    folder.put("mixed", b"l.raw moved.sheet\nl.raw l.sheet\nl.raw moved.sheet 0,0,0\nl.raw l.sheet 5,5,5");
-    let run = folder.run("audit mixed");
-    assert_eq!(run.status, Some(1));
-    let lines = [
-        "refused 17 0 l.raw moved.sheet",
-        "accepted l.raw l.sheet",
-        "refused 17 0 l.raw moved.sheet 0,0,0",
-        "refused 4 0 l.raw l.sheet 5,5,5",
-        "sheets 4, accepted 1, refused 3, not read 0",
-        "number 4: 1",
-        "number 17: 2",
-    ];
-    assert_eq!(run.output.lines().collect::<Vec<_>>(), lines);
-    assert_eq!(run.errors.lines().count(), 2, "{run:?}");
-
-    folder.put("unread", b"l.raw gone.sheet\nonly-one\nl.raw l.sheet\n. l.sheet\nl.raw moved.sheet\n");
-    let run = folder.run("audit unread");
-    assert_eq!(run.status, Some(2));
-    assert!(run.output.starts_with("not read l.raw gone.sheet: gone.sheet cannot be read"), "{run:?}");
-    assert!(run.output.contains("sheets 5, accepted 1, refused 1, not read 3\n"), "{run:?}");
-
-    folder.put("empty", b"");
-    folder.run("audit empty").well("sheets 0, accepted 0, refused 0, not read 0\n");
 }
 
 #[test]

@@ -17,6 +17,9 @@ use emulated as library;
 /// Whether the library runs under an emulator, where times say nothing.
 pub const EMULATED: bool = cfg!(emulated);
 
+/// Whether the library is its module compiled for this processor.
+pub const OWN: bool = cfg!(feature = "own");
+
 #[repr(C)]
 #[derive(Clone, Copy, Debug, Default, PartialEq, Eq)]
 pub struct Sizes {

@@ -1,5 +1,6 @@
 //! Trials of the proved library and of the tool: random cases, fuzzing, test volumes.
 
+pub mod archive;
 pub mod cases;
 pub mod damage;
 pub mod fuzz;

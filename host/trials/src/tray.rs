@@ -71,6 +71,14 @@ pub fn volume() -> Case {
     Case { sizes: SIZES, start: None, samples }
 }
 
+/// The grey between air and casting in the tray's scan.
+pub const LEVEL: i32 = 20_000;
+
+/// The scan as the scanner writes it: greys of 16 bits without a header.
+pub fn greys(volume: &Case) -> Vec<u8> {
+    volume.samples.iter().flat_map(|sample| ((LEVEL - i32::from(*sample)) as u16).to_le_bytes()).collect()
+}
+
 /// The cube where a walk from an air sample towards lower x meets solid.
 fn wall(volume: &Case, from: [f64; 3]) -> Option<[usize; 3]> {
     let [x, y, z] = from.map(|v| v.round() as usize);

@@ -1,7 +1,9 @@
 //! The proved library held against the second mesher: answers, outputs, work room and guard words.
 
-use std::collections::BTreeMap;
-use trials::cases::{Case, Lent};
+use host::cubes::{Cubes, Piece};
+use host::volume::Volume;
+use std::collections::{BTreeMap, BTreeSet};
+use trials::cases::{self, Case, Lent};
 use trials::random::Random;
 use trials::{damage, hold, volumes};
 
@@ -33,6 +35,29 @@ fn read_4000() {
 #[test]
 fn write_4000() {
     hold(4000, 4_000_000, hold::write, &[0, 1, 8, 9, 15]);
+}
+
+/// The surfaces that the tool tells of are those that the second mesher visits, by their lowest cubes.
+#[test]
+fn surfaces_2000() {
+    let mut most = 0;
+    for seed in 0..2000 {
+        let case = cases::case(&mut Random::new(5_000_000 + seed));
+        let volume = Volume::parse(&case.file());
+        let Some(cubes) = Cubes::of(&volume) else { continue };
+        let lattice = second::Lattice::new(case.sizes, &case.samples).expect("sizes and samples fit");
+        let mut left: BTreeSet<second::Point> = lattice.cubes().filter(|cube| lattice.crossed(*cube)).collect();
+        let mut wanted = Vec::new();
+        while let Some(first) = left.first().copied() {
+            let visited = second::Sheet::of(&lattice, first).visited;
+            visited.iter().for_each(|cube| assert!(left.remove(cube)));
+            let start = cases::place([first.x, first.y, first.z].map(|v| v as usize));
+            wanted.push(Piece { start, cubes: visited.len() });
+        }
+        most = most.max(wanted.len());
+        assert_eq!(cubes.pieces().0, wanted, "{case:?}");
+    }
+    assert!(most > 5);
 }
 
 /// Builds, writes, reads and checks one large lattice on both sides.

@@ -125,8 +125,8 @@ fn main() -> std::process::ExitCode {
     println!(
         "Least of {repeats} repeats, all calls interleaved in one run; all buffers were cleared before each call."
     );
-    if option_env!("MALXUQEED_LIBRARY").is_some() {
-        println!("The library's module was compiled for this processor; the library that is shipped is x86-64 code.");
+    if abi::OWN {
+        println!("The library's module was compiled for this processor.");
     }
     if abi::EMULATED {
         println!(

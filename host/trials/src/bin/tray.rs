@@ -1,4 +1,4 @@
-//! `tray FOLDER`: writes the demo's synthetic tray, tray.raw, and a manifest with a line for each of its surfaces.
+//! `tray FOLDER`: writes the demo's synthetic tray as greys, tray.raw, and a manifest with a line for each of its surfaces.
 
 use std::path::Path;
 use std::process::ExitCode;
@@ -14,17 +14,16 @@ fn main() -> ExitCode {
     let mut manifest = String::new();
     for piece in tray::pieces(&volume) {
         let [x, y, z] = piece.start;
-        manifest += &format!("tray.raw {}.sheet {x},{y},{z}\n", piece.name);
+        manifest += &format!("tray.vol {}.sheet {x},{y},{z}\n", piece.name);
     }
     let folder = Path::new(folder);
     let written = std::fs::create_dir_all(folder)
-        .and_then(|()| std::fs::write(folder.join("tray.raw"), volume.file()))
+        .and_then(|()| std::fs::write(folder.join("tray.raw"), tray::greys(&volume)))
         .and_then(|()| std::fs::write(folder.join("manifest.txt"), manifest));
     match written {
         Ok(()) => {
-            let air = volume.samples.iter().filter(|sample| **sample > 0).count();
             let [nx, ny, nz] = volume.sizes;
-            println!("tray.raw: {nx} x {ny} x {nz} samples, {air} of air, {} of solid", volume.samples.len() - air);
+            println!("tray.raw: {nx} x {ny} x {nz} greys of 16 bits, air below {}", tray::LEVEL);
             ExitCode::SUCCESS
         }
         Err(error) => {

@@ -1,0 +1,50 @@
+use crate::args::{Given, Start};
+use crate::command::{Command, START_OR_AUTO};
+use crate::explain::{place_text, sentence, About};
+use crate::failure::Failure;
+use crate::files;
+use crate::judge::judge;
+use crate::room::Room;
+use crate::streams::{Ended, Streams};
+use crate::volume::Volume;
+
+pub static COMMAND: Command = Command {
+    name: "check",
+    brief: "check a sheet file against its volume",
+    names: &["VOLUME", "SHEET"],
+    options: &[START_OR_AUTO],
+    text: "\
+Checks that the sheet file SHEET holds exactly the sheet of VOLUME from the start cube: each vertex and each triangle \
+once, in any order, a triangle from any corner. Without --start that is the sheet from the lowest cube that the surface \
+crosses.
+
+The first line of standard output is 'accepted', or 'refused N PLACE' with the number of the test that failed and the \
+first record or triangle that failed it (0 where the number speaks of no record). With --start auto a second line, \
+'start X,Y,Z', says which start was taken. A file that cannot be read as a sheet gets the refusal of reading it.",
+    run,
+};
+
+fn run(given: &Given, streams: &mut Streams) -> Result<Ended, Failure> {
+    let (from, sheet) = (given.name(0), given.name(1));
+    let asked = given.start(&START_OR_AUTO)?;
+    files::apart(&[from, sheet], &[])?;
+    let volume = Volume::read(from, streams)?;
+    let bytes = files::read_named_sheet(sheet, streams).map_err(|error| Failure::reading(sheet, &error))?;
+    let judged = judge(&volume, &bytes, asked, &mut Room::default());
+    let verdict = judged.verdict;
+    match verdict.number {
+        0 => streams.print(format_args!("accepted"))?,
+        number => streams.print(format_args!("refused {number} {}", verdict.place))?,
+    }
+    if let (Start::Auto, Some(start)) = (asked, judged.start) {
+        streams.print(format_args!("start {}", place_text(start)))?;
+    }
+    if verdict.number == 0 {
+        return Ok(Ended::Well);
+    }
+    streams.flush()?;
+    let start = if asked == Start::Unnamed { None } else { judged.start };
+    let about = About { volume: Some((from, &volume)), sheet: Some((sheet, &bytes)), start };
+    streams.say(&sentence(verdict, &about));
+    Ok(Ended::Refused)
+}

@@ -1,0 +1,32 @@
+//! The commands. Adding one is a module and a line of this table.
+
+pub mod audit;
+pub mod build;
+pub mod check;
+pub mod completion;
+pub mod from_raw;
+pub mod help;
+pub mod info;
+pub mod list;
+pub mod manual;
+pub mod picture;
+pub mod show;
+pub mod version;
+
+use crate::command::Command;
+
+/// In the order of the help.
+pub static COMMANDS: [&Command; 12] = [
+    &from_raw::COMMAND,
+    &info::COMMAND,
+    &build::COMMAND,
+    &check::COMMAND,
+    &audit::COMMAND,
+    &picture::COMMAND,
+    &list::COMMAND,
+    &show::COMMAND,
+    &help::COMMAND,
+    &version::COMMAND,
+    &manual::COMMAND,
+    &completion::COMMAND,
+];

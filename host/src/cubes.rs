@@ -1,0 +1,178 @@
+//! Cubes of a lattice: which are crossed, in which piece, and round which edge. The tool tells of them beside the library's
+//! answers; no verdict hangs on them.
+
+use crate::abi::{Place, Sizes};
+use crate::volume::Volume;
+
+/// The ends of each kind of edge, from its anchor (document 01).
+const ENDS: [[[usize; 3]; 2]; 7] = [
+    [[0, 0, 0], [1, 0, 0]],
+    [[0, 0, 0], [0, 1, 0]],
+    [[0, 0, 0], [0, 0, 1]],
+    [[0, 1, 0], [0, 0, 1]],
+    [[1, 0, 0], [0, 0, 1]],
+    [[0, 1, 0], [1, 0, 0]],
+    [[1, 1, 0], [0, 0, 1]],
+];
+
+/// The corners of a cube: bit 0 is x, bit 1 y, bit 2 z. A face has the corners with one bit set, or not set.
+const FACES: [[usize; 4]; 6] = [[0, 2, 4, 6], [1, 3, 5, 7], [0, 1, 4, 5], [2, 3, 6, 7], [0, 1, 2, 3], [4, 5, 6, 7]];
+
+/// The cubes of a volume that passes tests 1 and 2.
+pub struct Cubes<'a> {
+    volume: &'a Volume,
+    sizes: [usize; 3],
+}
+
+/// One surface of a volume: its lowest cube, and how many cubes it passes through.
+#[derive(Clone, Copy, Debug, PartialEq, Eq)]
+pub struct Piece {
+    pub start: Place,
+    pub cubes: usize,
+}
+
+fn place([x, y, z]: [usize; 3]) -> Place {
+    Place { x, y, z }
+}
+
+impl Cubes<'_> {
+    /// Nothing for a volume that fails test 1 or 2.
+    pub fn of(volume: &Volume) -> Option<Cubes<'_>> {
+        let Sizes { nx, ny, nz } = volume.sizes;
+        volume.is_whole().then_some(Cubes { volume, sizes: [nx, ny, nz] })
+    }
+
+    pub fn count(&self) -> usize {
+        self.sizes.iter().map(|axis| axis - 1).product()
+    }
+
+    fn at(&self, number: usize) -> [usize; 3] {
+        let [nx, ny, _] = self.sizes.map(|axis| axis - 1);
+        [number % nx, number / nx % ny, number / nx / ny]
+    }
+
+    pub fn number(&self, cube: Place) -> usize {
+        let [nx, ny, _] = self.sizes.map(|axis| axis - 1);
+        cube.x + nx * (cube.y + ny * cube.z)
+    }
+
+    fn is_air(&self, [x, y, z]: [usize; 3]) -> bool {
+        self.volume.samples[x + self.sizes[0] * (y + self.sizes[1] * z)] > 0
+    }
+
+    /// A bit for each corner that is air.
+    fn pattern(&self, [x, y, z]: [usize; 3]) -> u8 {
+        let corner = |bit: usize| self.is_air([x + (bit & 1), y + (bit >> 1 & 1), z + (bit >> 2)]);
+        (0..8).fold(0, |pattern, bit| pattern | u8::from(corner(bit)) << bit)
+    }
+
+    pub fn is_crossed(&self, number: usize) -> bool {
+        !matches!(self.pattern(self.at(number)), 0 | 255)
+    }
+
+    pub fn lowest_crossed(&self) -> Option<Place> {
+        (0..self.count()).find(|&number| self.is_crossed(number)).map(|number| place(self.at(number)))
+    }
+
+    /// The cubes across the mixed faces of a cube.
+    fn neighbours(&self, cube: [usize; 3]) -> impl Iterator<Item = [usize; 3]> + '_ {
+        let pattern = self.pattern(cube);
+        let mixed = move |face: usize| {
+            let air = FACES[face].iter().filter(|&&corner| pattern >> corner & 1 == 1).count();
+            0 < air && air < 4
+        };
+        (0..6).filter(move |&face| mixed(face)).filter_map(move |face| {
+            let mut next = cube;
+            let axis = face / 2;
+            next[axis] = if face % 2 == 0 { cube[axis].checked_sub(1)? } else { cube[axis] + 1 };
+            (next[axis] < self.sizes[axis] - 1).then_some(next)
+        })
+    }
+
+    /// Every surface, by its lowest cube; and for each cube the number of its piece, or nothing where it is not crossed.
+    pub fn pieces(&self) -> (Vec<Piece>, Vec<Option<u32>>) {
+        let mut pieces: Vec<Piece> = Vec::new();
+        let mut of = vec![None; self.count()];
+        for number in 0..self.count() {
+            if of[number].is_some() || !self.is_crossed(number) {
+                continue;
+            }
+            let (own, start) = (Some(pieces.len() as u32), self.at(number));
+            let mut waiting = vec![start];
+            let mut cubes = 0;
+            of[number] = own;
+            while let Some(cube) = waiting.pop() {
+                cubes += 1;
+                for next in self.neighbours(cube) {
+                    let seen = &mut of[self.number(place(next))];
+                    if seen.is_none() {
+                        *seen = own;
+                        waiting.push(next);
+                    }
+                }
+            }
+            pieces.push(Piece { start: place(start), cubes });
+        }
+        (pieces, of)
+    }
+
+    /// The cubes that have both ends of an edge, by rising number, where the ends are on different sides: a sheet with a
+    /// vertex there passes through one of them.
+    pub fn round_edge(&self, edge: i32) -> Vec<Place> {
+        let Ok(edge) = usize::try_from(edge) else { return Vec::new() };
+        let [nx, ny, nz] = self.sizes;
+        let anchor = [edge / 7 % nx, edge / 7 / nx % ny, edge / 7 / nx / ny];
+        let ends = ENDS[edge % 7].map(|end| [0, 1, 2].map(|axis| anchor[axis] + end[axis]));
+        let outside = ends.iter().any(|end| end[0] >= nx || end[1] >= ny || end[2] >= nz);
+        if outside || self.is_air(ends[0]) == self.is_air(ends[1]) {
+            return Vec::new();
+        }
+        // on an axis where the ends differ the lower one is the cube's, else the cube lies on either side
+        let span = |axis: usize| {
+            let (low, high) = (ends[0][axis].min(ends[1][axis]), ends[0][axis].max(ends[1][axis]));
+            high.saturating_sub(1)..=low.min(self.sizes[axis] - 2)
+        };
+        let row = |y, z| span(0).map(move |x| Place { x, y, z });
+        span(2).flat_map(|z| span(1).map(move |y| (y, z))).flat_map(|(y, z)| row(y, z)).collect()
+    }
+}
+
+#[cfg(test)]
+mod tests {
+    use super::*;
+
+    fn volume(sizes: [usize; 3], air: &[usize]) -> Volume {
+        let [nx, ny, nz] = sizes;
+        let mut samples = vec![-1; nx * ny * nz];
+        air.iter().for_each(|&n| samples[n] = 1);
+        Volume { sizes: Sizes { nx, ny, nz }, samples, bytes: 0 }
+    }
+
+    #[test]
+    fn pieces_by_their_lowest_cube() {
+        let pair = volume([5, 2, 2], &[0, 4]);
+        let cubes = Cubes::of(&pair).expect("a whole volume");
+        let [first, second] = [0, 3].map(|x| Piece { start: Place { x, y: 0, z: 0 }, cubes: 1 });
+        assert_eq!(cubes.pieces(), (vec![first, second], vec![Some(0), None, None, Some(1)]));
+        assert_eq!(cubes.lowest_crossed(), Some(first.start));
+        let single = volume([3, 3, 3], &[13]);
+        let (pieces, _) = Cubes::of(&single).expect("a whole volume").pieces();
+        assert_eq!(pieces, [Piece { start: Place::default(), cubes: 8 }]);
+        assert_eq!(Cubes::of(&volume([2, 2, 2], &[])).and_then(|cubes| cubes.lowest_crossed()), None);
+        assert!(Cubes::of(&Volume::default()).is_none());
+    }
+
+    #[test]
+    fn cubes_round_an_edge() {
+        let single = volume([3, 3, 3], &[13]);
+        let cubes = Cubes::of(&single).expect("a whole volume");
+        // from the middle sample along x: four cubes; its body diagonal: one; an edge within the solid: none
+        let starts = |edge| cubes.round_edge(edge).iter().map(|cube| [cube.x, cube.y, cube.z]).collect::<Vec<_>>();
+        assert_eq!(starts(7 * 13), [[1, 0, 0], [1, 1, 0], [1, 0, 1], [1, 1, 1]]);
+        assert_eq!(starts(7 * 9 + 6), [[0, 0, 1]]);
+        assert_eq!(starts(0), [[0; 3]; 0]);
+        for none in [-1, i32::MIN, i32::MAX, 7 * 27] {
+            assert_eq!(starts(none), [[0; 3]; 0]);
+        }
+    }
+}

@@ -1,0 +1,181 @@
+//! A refusal in a sentence that names the files and their values, and says what to do.
+
+use crate::abi::{Place, Sizes, Verdict};
+use crate::failure::shown;
+use crate::files;
+use crate::numbers;
+use crate::room;
+use crate::sheet::Sheet;
+use crate::volume::{self, Volume};
+use std::path::Path;
+
+/// What was refused.
+#[derive(Clone, Copy, Default)]
+pub struct About<'a> {
+    pub volume: Option<(&'a Path, &'a Volume)>,
+    pub sheet: Option<(&'a Path, &'a [u8])>,
+    pub start: Option<Place>,
+}
+
+pub fn sizes_text(sizes: Sizes) -> String {
+    format!("{} x {} x {}", sizes.nx, sizes.ny, sizes.nz)
+}
+
+pub fn place_text(place: Place) -> String {
+    format!("{},{},{}", place.x, place.y, place.z)
+}
+
+/// The trailer of a sheet file, whatever it says.
+struct Trailer {
+    vertices: u64,
+    triangles: u64,
+    sizes: Sizes,
+    mark: u16,
+}
+
+fn trailer(bytes: &[u8]) -> Option<Trailer> {
+    let end = bytes.get(bytes.len().checked_sub(24)?..)?;
+    let word = |at: usize| u64::from(u32::from_le_bytes([end[at], end[at + 1], end[at + 2], end[at + 3]]));
+    let half = |at: usize| u16::from_le_bytes([end[at], end[at + 1]]);
+    let axis = |at: usize| usize::from(half(at));
+    let sizes = Sizes { nx: axis(16), ny: axis(18), nz: axis(20) };
+    Some(Trailer { vertices: word(4), triangles: word(12), sizes, mark: half(22) })
+}
+
+/// The refusal in full: number, what was found, what to do.
+pub fn sentence(verdict: Verdict, about: &About) -> String {
+    let remedy = numbers::number(verdict.number).map_or("", |row| row.remedy);
+    format!("refused {}: {}. {remedy}", verdict.number, found(verdict, about)).trim_end().to_string()
+}
+
+/// What was found, by names and values where they are known.
+pub fn found(verdict: Verdict, about: &About) -> String {
+    let Verdict { number, place } = verdict;
+    values(verdict, about).unwrap_or_else(|| match numbers::number(number).and_then(|row| row.place) {
+        Some(counts) => format!("{} (the first is {counts} {place}, counted from 0)", numbers::meaning(number)),
+        None => numbers::meaning(number).to_string(),
+    })
+}
+
+/// The values behind a refusal.
+fn values(Verdict { number, place }: Verdict, about: &About) -> Option<String> {
+    match number {
+        1 => axes(about),
+        2 => about.volume.map(|(path, volume)| samples(path, volume)),
+        4 => {
+            let (path, volume) = about.volume?;
+            let (Sizes { nx, ny, nz }, start) = (volume.sizes, place_text(about.start?));
+            let (sizes, last) = (sizes_text(volume.sizes), place_text(Place { x: nx - 2, y: ny - 2, z: nz - 2 }));
+            Some(format!(
+                "start {start} is no cube of {}, whose {sizes} samples have cubes 0,0,0 to {last}",
+                shown(path)
+            ))
+        }
+        5 => about.volume.map(|(path, volume)| not_crossed(path, volume, about.start)),
+        15 => about.sheet.and_then(|(path, bytes)| stray(place, path, bytes)),
+        11..=16 => about.sheet.and_then(|(path, bytes)| layout(number, path, bytes, about)),
+        17 | 18 => about.sheet.and_then(|(path, bytes)| record(number, place, path, bytes)),
+        19 => {
+            let (path, bytes) = about.sheet?;
+            let Trailer { vertices, triangles, .. } = trailer(bytes)?;
+            let what = numbers::meaning(19).replace("the sheet file", &shown(path));
+            Some(format!("{what}, which holds {vertices} vertices and {triangles} triangles, all of them right"))
+        }
+        _ => None,
+    }
+}
+
+fn axes(about: &About) -> Option<String> {
+    let of =
+        |path: &Path, sizes: Sizes| format!("{} says {} samples, an axis has 2 to 64", shown(path), sizes_text(sizes));
+    match (about.volume, about.sheet) {
+        (Some((path, volume)), _) if volume.bytes < 6 => {
+            Some(format!("{} has {} bytes, a volume begins with three sizes in 6", shown(path), volume.bytes))
+        }
+        (Some((path, volume)), _) if !room::fits(volume.sizes) => Some(of(path, volume.sizes)),
+        (_, Some((path, bytes))) => trailer(bytes).map(|trailer| of(path, trailer.sizes)),
+        _ => None,
+    }
+}
+
+fn samples(path: &Path, volume: &Volume) -> String {
+    let (wanted, body) = (room::samples(volume.sizes), volume.bytes - 6);
+    let held = match volume.bytes as u64 {
+        volume::ENOUGH => format!("more than {}", body / 2),
+        _ if body % 2 == 1 => format!("{} and half of one", body / 2),
+        _ => (body / 2).to_string(),
+    };
+    format!("{} asks for {wanted} samples, {} holds {held}", sizes_text(volume.sizes), shown(path))
+}
+
+fn not_crossed(path: &Path, volume: &Volume, start: Option<Place>) -> String {
+    match start {
+        Some(start) => {
+            let corner = volume.samples[start.x + volume.sizes.nx * (start.y + volume.sizes.ny * start.z)];
+            let side = if corner > 0 { "air" } else { "solid" };
+            format!("all eight corners of cube {} of {} are {side}", place_text(start), shown(path))
+        }
+        None => {
+            let (least, greatest) = (volume.samples.iter().min(), volume.samples.iter().max());
+            let (least, greatest) = (least.copied().unwrap_or(0), greatest.copied().unwrap_or(0));
+            let side = if least > 0 { "air" } else { "solid" };
+            format!("no surface is in {}: its samples are {least} to {greatest}, all {side}", shown(path))
+        }
+    }
+}
+
+fn layout(number: usize, path: &Path, bytes: &[u8], about: &About) -> Option<String> {
+    let (name, length) = (shown(path), bytes.len() as u64);
+    if number == 11 {
+        return Some(format!("{name} has {length} bytes, a sheet file has 24 at least"));
+    }
+    let Trailer { vertices, triangles, sizes, mark } = trailer(bytes)?;
+    match number {
+        12 => Some(format!("{name} ends in {mark}, a sheet file in the mark 21331")),
+        14 => {
+            let wanted = 16 * vertices + 12 * triangles + 24;
+            let many = vertices > 2_000_000 || triangles > 4_000_000;
+            let limits = if many { ", more than a sheet file may hold" } else { "" };
+            let counts = format!("{vertices} vertices and {triangles} triangles{limits}");
+            // of a file that is too long the end alone was read
+            let has = if bytes.len() == files::END { "another length".to_string() } else { length.to_string() };
+            Some(format!("{name} says {counts}, which makes {wanted} bytes by document 01; it has {has}"))
+        }
+        16 => {
+            let (of, volume) = about.volume?;
+            let (own, other) = (sizes_text(sizes), sizes_text(volume.sizes));
+            Some(format!("{name} is a sheet of {own} samples, {} has {other}", shown(of)))
+        }
+        _ => None,
+    }
+}
+
+/// Refusal 15: the index that is too large.
+fn stray(place: usize, path: &Path, bytes: &[u8]) -> Option<String> {
+    let vertices = trailer(bytes)?.vertices;
+    let at = 16 * usize::try_from(vertices).ok()? + 12 * place;
+    let index = |k: usize| {
+        bytes.get(at + 4 * k..at + 4 * k + 4).map(|word| u32::from_le_bytes([word[0], word[1], word[2], word[3]]))
+    };
+    let large = [index(0)?, index(1)?, index(2)?].into_iter().find(|&index| u64::from(index) >= vertices)?;
+    let name = shown(path);
+    Some(format!("triangle {place} of {name}, counted from 0, names vertex {large}, where there are {vertices}"))
+}
+
+/// Refusals 17 and 18: the record or triangle that is wrong.
+fn record(number: usize, place: usize, path: &Path, bytes: &[u8]) -> Option<String> {
+    let sheet = Sheet::read(bytes).ok()?;
+    let what = numbers::meaning(number).replace("the sheet file", &shown(path));
+    let found = match number {
+        17 => {
+            let [edge, x, y, z] = sheet.record(place.try_into().ok()?);
+            format!("vertex record {place}, counted from 0, says edge {edge} at {x} {y} {z}")
+        }
+        _ => {
+            let [a, b, c] = sheet.corners().nth(place)?;
+            let [e, f, g] = sheet.by_edges().nth(place)?;
+            format!("triangle {place}, counted from 0, joins vertices {a} {b} {c}, on edges {e} {f} {g}")
+        }
+    };
+    Some(format!("{what}: {found}"))
+}

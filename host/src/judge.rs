@@ -1,0 +1,60 @@
+//! The verdict on a sheet, from a start that is named or from the sheet itself. Every verdict is the library's.
+
+use crate::abi::{self, Place, Verdict};
+use crate::args::Start;
+use crate::cubes::Cubes;
+use crate::room::Room;
+use crate::sheet::Sheet;
+use crate::volume::Volume;
+
+/// A verdict, and the start cube that it was given for; none where no cube was looked for.
+#[derive(Clone, Copy, Debug, PartialEq, Eq)]
+pub struct Judged {
+    pub verdict: Verdict,
+    pub start: Option<Place>,
+}
+
+pub fn judge(volume: &Volume, bytes: &[u8], start: Start, room: &mut Room) -> Judged {
+    match start {
+        Start::Auto => automatic(volume, bytes, room),
+        Start::Cube(place) => Judged { verdict: check(volume, bytes, Some(place), room), start: Some(place) },
+        Start::Unnamed => {
+            let taken = Cubes::of(volume).and_then(|cubes| cubes.lowest_crossed());
+            Judged { verdict: check(volume, bytes, None, room), start: taken }
+        }
+    }
+}
+
+fn check(volume: &Volume, bytes: &[u8], start: Option<Place>, room: &mut Room) -> Verdict {
+    abi::check(volume.from(start), bytes, room.lend(volume.sizes))
+}
+
+/// A sheet's first record lies on an edge of a cube that the sheet passes through, and each such cube gives the same sheet.
+/// So the cubes round that edge are tried; if one of them is accepted, so is the file. Where that edge is crossed in no
+/// cube, the file is wrong from every start, and the first record that says more is taken instead.
+fn automatic(volume: &Volume, bytes: &[u8], room: &mut Room) -> Judged {
+    let unnamed = |room: &mut Room| Judged { verdict: check(volume, bytes, None, room), start: None };
+    let Some(cubes) = Cubes::of(volume) else { return unnamed(room) };
+    let sheet = match Sheet::read(bytes) {
+        Ok(sheet) => sheet,
+        Err(verdict) => return Judged { verdict, start: None },
+    };
+    if sheet.sizes != volume.sizes {
+        return unnamed(room);
+    }
+    let rounds = sheet.records().map(|record| cubes.round_edge(record[0]));
+    let Some(starts) = rounds.into_iter().find(|starts| !starts.is_empty()) else { return unnamed(room) };
+    let mut best: Option<Judged> = None;
+    for start in starts {
+        let tried = Judged { verdict: check(volume, bytes, Some(start), room), start: Some(start) };
+        if tried.verdict.number == 0 {
+            return tried;
+        }
+        // of the refusals, the one that came last in the order of tests, since it fits the file best
+        let reach = |judged: &Judged| (judged.verdict.number, judged.verdict.place);
+        if best.as_ref().map_or(true, |best| reach(best) < reach(&tried)) {
+            best = Some(tried);
+        }
+    }
+    best.unwrap_or_else(|| unnamed(room))
+}

@@ -1,0 +1,64 @@
+//! Which triangles of a file are wrong, one by one. The sheet to compare with is the library's own.
+
+use crate::abi::Place;
+use crate::room::Room;
+use crate::sheet::Sheet;
+use crate::volume::Volume;
+use std::collections::{HashMap, HashSet};
+
+#[derive(Clone, Copy, Debug, PartialEq, Eq)]
+pub enum Mark {
+    Right,
+    /// Test 17 would refuse the record of a corner, while the triangle by its edges is right.
+    Vertex,
+    /// Test 18 would refuse it: by its edges it is not in the sheet, or repeats an earlier one.
+    Triangle,
+}
+
+/// A triangle from its lowest corner: all turns of it are then one value.
+fn turned([a, b, c]: [i32; 3]) -> [i32; 3] {
+    [[a, b, c], [b, c, a], [c, a, b]].into_iter().min().unwrap_or([a, b, c])
+}
+
+/// A file held against the sheet.
+#[derive(Clone, Debug, Default, PartialEq, Eq)]
+pub struct Marks {
+    /// For each triangle of the file.
+    pub of: Vec<Mark>,
+    /// The sheet's triangles that the file does not hold, by the positions of their corners.
+    pub missing: Vec<[[i32; 3]; 3]>,
+}
+
+impl Marks {
+    /// How many triangles test 18 would refuse.
+    pub fn wrong(&self) -> usize {
+        self.of.iter().filter(|mark| **mark == Mark::Triangle).count()
+    }
+}
+
+/// The marks of a file; none where there is no sheet to compare with.
+pub fn marks(file: &Sheet, volume: &Volume, start: Option<Place>, room: &mut Room) -> Option<Marks> {
+    let (built, sheet) = Sheet::build(volume, start, room);
+    if built.number != 0 || file.sizes != sheet.sizes {
+        return None;
+    }
+    let mut positions: HashMap<i32, [i32; 4]> = sheet.records().map(|record| (record[0], record)).collect();
+    let right: Vec<bool> = file.records().map(|record| positions.remove(&record[0]) == Some(record)).collect();
+    let mut unmet: HashSet<[i32; 3]> = sheet.by_edges().map(turned).collect();
+    let mark = |(corners, edges): ([u32; 3], [i32; 3])| {
+        if !unmet.remove(&turned(edges)) {
+            Mark::Triangle
+        } else if corners.iter().any(|&vertex| !right[vertex as usize]) {
+            Mark::Vertex
+        } else {
+            Mark::Right
+        }
+    };
+    let of = file.corners().zip(file.by_edges()).map(mark).collect();
+    let place = |vertex: u32| {
+        let [_, x, y, z] = sheet.record(vertex);
+        [x, y, z]
+    };
+    let absent = sheet.corners().zip(sheet.by_edges()).filter(|(_, edges)| unmet.contains(&turned(*edges)));
+    Some(Marks { of, missing: absent.map(|(corners, _)| corners.map(place)).collect() })
+}

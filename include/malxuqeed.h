@@ -1,0 +1,130 @@
+/* malxuqeed.h: the proved mesher, writer, reader and checker of sheets, for C and C++.
+ *
+ * Each function is proved to be safe on every input, to end, and to give exactly the answer and the refusal that document 01
+ * says. Nothing is asked of a caller but this:
+ *
+ *   - each pointer leads to as many elements as the length behind it says (0 elements need no place: any pointer will do);
+ *   - NO SLICE OVERLAPS ANOTHER that the same call may write to (samples and bytes that are only read may be shared between
+ *     calls, but not with a slice that this call writes);
+ *   - all that a call is given stays as it is until the call returns. No call keeps a pointer, and calls share nothing: calls
+ *     on slices of their own may run at the same time.
+ *
+ * Lent work room may hold anything on entry. After a success, and after 6, 7 (building), 17, 18 and 19, its needed front is
+ * all 0; after any other refusal it is as it was. No refusal writes to output, and nothing beyond what is written changes.
+ * The library takes less than 12 KB of stack and no memory of its own. */
+#ifndef MALXUQEED_H
+#define MALXUQEED_H
+
+#include <stdbool.h>
+#include <stddef.h>
+#include <stdint.h>
+
+#ifdef __cplusplus
+extern "C" {
+#endif
+
+/* Samples on each axis: 2 to 64, or the answer is MALXUQEED_AXIS. Sample (x, y, z) has number x + nx * (y + ny * z). */
+typedef struct { size_t nx, ny, nz; } malxuqeed_sizes;
+
+/* A cube of the lattice, by its lowest corner: each coordinate is below its axis minus 1. */
+typedef struct { size_t x, y, z; } malxuqeed_place;
+
+/* The numbers of document 01; malxuqeed_meaning says each in a sentence. */
+typedef enum {
+    MALXUQEED_OK = 0,
+    MALXUQEED_AXIS = 1,
+    MALXUQEED_SAMPLES = 2,
+    MALXUQEED_WORK = 3,
+    MALXUQEED_START = 4,
+    MALXUQEED_NOT_CROSSED = 5,
+    MALXUQEED_VERTEX_ROOM = 6,
+    MALXUQEED_TRIANGLE_ROOM = 7,
+    MALXUQEED_BYTES = 8,
+    MALXUQEED_COUNT = 9,
+    MALXUQEED_SHORT = 11,
+    MALXUQEED_MARK = 12,
+    MALXUQEED_LAYOUT = 14,
+    MALXUQEED_INDEX = 15,
+    MALXUQEED_SIZES = 16,
+    MALXUQEED_VERTEX = 17,
+    MALXUQEED_TRIANGLE = 18,
+    MALXUQEED_ABSENT = 19
+} malxuqeed_number;
+
+static inline const char *malxuqeed_meaning(size_t number)
+{
+    switch (number) {
+    case MALXUQEED_OK: return "all is well";
+    case MALXUQEED_AXIS: return "an axis has fewer than 2 or more than 64 samples";
+    case MALXUQEED_SAMPLES: return "the volume does not hold exactly as many samples as its sizes ask for";
+    case MALXUQEED_WORK: return "a lent work slice is too short";
+    case MALXUQEED_START: return "the named start is not a cube of the lattice";
+    case MALXUQEED_NOT_CROSSED:
+        return "the surface does not pass through the start cube, or, where none was named, through any cube";
+    case MALXUQEED_VERTEX_ROOM: return "the sheet has more vertices than there is room for";
+    case MALXUQEED_TRIANGLE_ROOM: return "the sheet has more triangles than there is room for";
+    case MALXUQEED_BYTES: return "the lent bytes are too few for the file";
+    case MALXUQEED_COUNT: return "a count is larger than what was given, or than a sheet file may hold";
+    case MALXUQEED_SHORT: return "the sheet file is shorter than its 24-byte trailer";
+    case MALXUQEED_MARK: return "the file does not end in the mark of a sheet file";
+    case MALXUQEED_LAYOUT: return "the counts, distances and length of the sheet file do not fit together";
+    case MALXUQEED_INDEX: return "a triangle of the sheet file names a vertex that is not there";
+    case MALXUQEED_SIZES: return "the sheet file is of a lattice with other sizes than the volume";
+    case MALXUQEED_VERTEX:
+        return "a vertex of the sheet file is not on this surface, is at the wrong position, or comes twice";
+    case MALXUQEED_TRIANGLE:
+        return "a triangle of the sheet file is not on this surface, faces the wrong way, or comes twice";
+    case MALXUQEED_ABSENT: return "a vertex or a triangle of this surface is missing from the sheet file";
+    default: return "a number that document 01 does not name";
+    }
+}
+
+/* Sizes of room. Sizes that the library refuses need none. */
+static inline bool malxuqeed_fits(malxuqeed_sizes s)
+{
+    return s.nx >= 2 && s.nx <= 64 && s.ny >= 2 && s.ny <= 64 && s.nz >= 2 && s.nz <= 64;
+}
+static inline size_t malxuqeed_samples(malxuqeed_sizes s) { return malxuqeed_fits(s) ? s.nx * s.ny * s.nz : 0; }
+static inline size_t malxuqeed_cubes(malxuqeed_sizes s) { return malxuqeed_fits(s) ? (s.nx - 1) * (s.ny - 1) * (s.nz - 1) : 0; }
+/* Work room, in elements: with as much, 3 cannot come. */
+static inline size_t malxuqeed_words_room(malxuqeed_sizes s) { return malxuqeed_cubes(s); }
+static inline size_t malxuqeed_waiting_room(malxuqeed_sizes s) { return malxuqeed_cubes(s); }
+static inline size_t malxuqeed_slots_room(malxuqeed_sizes s) { return 7 * malxuqeed_samples(s); }
+/* Output of the largest sheet that the sizes can have, in numbers: with as much, 6 and 7 cannot come. */
+static inline size_t malxuqeed_vertices_room(malxuqeed_sizes s) { return 4 * 7 * malxuqeed_samples(s); }
+static inline size_t malxuqeed_triangles_room(malxuqeed_sizes s) { return 3 * 12 * malxuqeed_cubes(s); }
+/* The length of a sheet file. */
+static inline size_t malxuqeed_file_bytes(size_t vertices, size_t triangles) { return 16 * vertices + 12 * triangles + 24; }
+
+/* Answers. A number of 0 is success. */
+typedef struct { size_t number, vertices, triangles, cubes; } malxuqeed_built;
+typedef struct { size_t number, place, bytes; } malxuqeed_wrote;
+typedef struct { size_t number, place, vertices, triangles; malxuqeed_sizes sizes; } malxuqeed_got;
+typedef struct { size_t number, place; } malxuqeed_verdict;
+
+/* Builds the sheet through a start cube: the named one, or, where named is false, the lowest that is crossed. Vertices are
+ * records of four numbers (edge, x, y, z; coordinates in 1/65536 of a sample step), triangles three vertex numbers.
+ * Tests 1 to 7. The counts are true at 0, 6 and 7, else 0. */
+malxuqeed_built malxuqeed_build(malxuqeed_sizes sizes, bool named, malxuqeed_place start, const int16_t *samples,
+    size_t samples_len, int32_t *vertices, size_t vertices_len, uint32_t *triangles, size_t triangles_len, uint16_t *words,
+    size_t words_len, uint32_t *waiting, size_t waiting_len, uint32_t *slots, size_t slots_len);
+
+/* Writes a sheet file of so many vertices and triangles to the front of bytes. Tests 1, 9, 15, 8. Answers how many bytes. */
+malxuqeed_wrote malxuqeed_write(malxuqeed_sizes sizes, size_t nv, size_t nt, const int32_t *vertices, size_t vertices_len,
+    const uint32_t *triangles, size_t triangles_len, uint8_t *bytes, size_t bytes_len);
+
+/* Reads a sheet file. Tests 11, 12, 1, 14, 15, 6, 7. */
+malxuqeed_got malxuqeed_read(const uint8_t *bytes, size_t bytes_len, int32_t *vertices, size_t vertices_len,
+    uint32_t *triangles, size_t triangles_len);
+
+/* Checks a sheet file against its samples: 0 exactly when it holds the sheet from that start, in any order. Tests 1 to 5, then
+ * 11, 12, 1, 14, 15, then 16 to 19. The place is that of the first wrong record or triangle at 15, 17 and 18, else 0. */
+malxuqeed_verdict malxuqeed_check(malxuqeed_sizes sizes, bool named, malxuqeed_place start, const int16_t *samples,
+    size_t samples_len, const uint8_t *bytes, size_t bytes_len, uint16_t *words, size_t words_len, uint32_t *waiting,
+    size_t waiting_len, uint32_t *slots, size_t slots_len);
+
+#ifdef __cplusplus
+}
+#endif
+
+#endif
