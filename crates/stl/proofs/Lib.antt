@@ -1,0 +1,3 @@
+-- Laws of STL files.
+pub mod Laws
+pub mod Answers
