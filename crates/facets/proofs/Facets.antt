@@ -39,24 +39,6 @@ pub corners-stand : (f : Facet) → facetStands f ≡ true → (cornerStands (f 
 unfolding facetStands
 corners-stand f e = three (cornerStands (f .a)) (cornerStands (f .b)) (cornerStands (f .c)) e
 
--- ── bits of no number ──
-
-pub zero-over-zero : div binary32 (ofBits binary32 0) (ofBits binary32 0) ≡ nan
-unfolding div ofBits ofFields odd
-zero-over-zero = refl
-
-is-nan : (x : Float) → isNan x ≡ true → x ≡ nan
-unfolding isNan
-is-nan nan e = refl
-is-nan (inf s) e = absurd (subst T (sym e) tt)
-is-nan (fin s m k) e = absurd (subst T (sym e) tt)
-
-pub nan-bits : (b : ℕ) → 2139095040 < b % 2147483648 → nan ≡ ofBits binary32 b
-nan-bits b h = sym (is-nan (ofBits binary32 b) (sym (nanBits-is binary32 b) ∙ nanBits-above binary32 b ∙ lt-ltb 2139095040 (b % 2147483648) h))
-
-pub number-bits : (b : ℕ) → b % 2147483648 ≤ 2139095040 → T (not (nanBits binary32 b))
-number-bits b h = rw (nanBits-above binary32 b ∙ le-ltb 2139095040 (b % 2147483648) h) tt
-
 -- ── stores one after another ──
 
 pub corner-length : (c : Corner) → length (cornerBytes c) ≡ 12

@@ -1,19 +1,18 @@
 -- A float is taken exactly where it is a coordinate's, and gives that coordinate. Assumes nothing.
 use mathlib.Core.Path.{_≡_, refl, sym, subst, ap, _∙_}
-use mathlib.Core.Bool.{Bool, true, false, not, cond, _&&_}
-use Prim.Native.Nat.{ℕ, _+_, _-_, _≤_, _<_}
+use mathlib.Core.Bool.{Bool, true, false, not, cond, _&&_, Bool·beq}
+use Prim.Native.Nat.{ℕ, zero, suc, _+_, _-_, _*_, _%_, _^_, _≤_, _<_}
 use native.Mathlib.Omega.{arith}
-use borrow.Author.Tests.{le-leb, leb-true, eq-eqb, eqb-true, eqb-false, ltb-true}
-use lib.Dec.{T, leb, eqb}
+use borrow.Author.Tests.{le-leb, leb-true, le-ltb, eq-eqb, eqb-true, eqb-false, ltb-true}
+use lib.Dec.{T, leb, ltb, eqb}
 use lib.IntN.{ℤ, pos, negsuc}
 use lib.Signed.{leZ, ltZ}
-use lib.Ieee.{Float, nan, inf, fin, add, eq, binary32, fits, ofBits, toBits, isNan, ne}
-use lib.Ieee.Bits.{ofBits-toBits, is-true}
-use lib.Ieee.Compare.{differs-from-itself}
+use lib.Ieee.{Float, nan, inf, fin, Format, binary32, prec, emax, low, up, down, add, sum, round, units, odd, fits, ofBits, toBits, isNan, nanBits}
+use lib.Ieee.Bits.{ofBits-toBits, toBits-ofBits, ofBits-fits, nanBits-is, nanBits-above, is-true}
 use lib.Ieee.Fits.{round-fits}
 use Rattle.paper.proofs.Judged.{both}
 use Rattle.facets.specs.Steps.{floatOf, inBounds, natOf, scaled, isImage, wordOf, Candidate}
-use Rattle.facets.proofs.Floats.{scaled-float, float-number, float-more, digits-are}
+use Rattle.facets.proofs.Floats.{base-is, scaled-float, float-number, float-more, digits-are, float-below}
 
 pub float-fits : (n : ℕ) → T (fits binary32 (floatOf n))
 unfolding floatOf
@@ -85,57 +84,66 @@ word-back w e =
     let b = bounds-are w e in
     (float-is-image (natOf w) (b .0), ap pos (scaled-float (natOf w) (omega (arith, b .0))) ∙ sym (b .1))
 
+-- ── no number ──
+
+-- what is rounded is a number, and so is the sum of a number and a finite one
+units-number : (f : Format) (s : Bool) (q k : ℕ) → T (not (isNan (units f s q k)))
+unfolding units isNan odd
+units-number f s q k = go (ltb (q * 2 ^ k) (2 ^ (low f + suc (emax f)))) q
+  where
+    go : (b : Bool) (q : ℕ) → T (not (isNan (cond b (odd (suc (prec f)) s q k (low f)) (inf s))))
+    go true zero = tt
+    go true (suc q) = tt
+    go false q = tt
+
+round-number : (f : Format) (s : Bool) (a c : ℕ) → T (not (isNan (round f s a c)))
+unfolding round
+round-number f s a c = units-number f s _ _
+
+cond-number : (b : Bool) (x y : Float) → T (not (isNan x)) → T (not (isNan y)) → T (not (isNan (cond b x y)))
+cond-number true x y g h = g
+cond-number false x y g h = h
+
+sum-number : (f : Format) (s : Bool) (a : ℕ) (t : Bool) (b c : ℕ) → T (not (isNan (sum f s a t b c)))
+unfolding sum
+sum-number f s a t b c =
+    cond-number (Bool·beq s t) (round f s (a + b) c) (cond (ltb a b) (round f t (b - a) c) (round f (s && ltb b a) (a - b) c)) (round-number f s (a + b) c)
+    (cond-number (ltb a b) (round f t (b - a) c) (round f (s && ltb b a) (a - b) c) (round-number f t (b - a) c) (round-number f (s && ltb b a) (a - b) c))
+
+add-number : (x : Float) (t : Bool) (n : ℕ) (d : ℤ) → T (not (isNan x)) → T (not (isNan (add binary32 x (fin t n d))))
+unfolding add
+add-number nan t n d h = h
+add-number (inf s) t n d h = h
+add-number (fin s m e) t n d h = sum-number binary32 s (m * up e * down d) t (n * up d * down e) (down e * down d)
+
+-- a float that is taken is a number, and so are bits below 64's
+pub image-number : (x : Float) → isImage x ≡ true → T (not (isNan x))
+unfolding isImage
+image-number x e =
+    let a = leb (scaled x) 4128768 in
+    let b = both (a && not (isNan x)) (eqb (toBits binary32 (floatOf (scaled x))) (toBits binary32 x)) e in
+    subst T (sym (both a (not (isNan x)) (b .0) .1)) tt
+
+pub number-bits : (b : ℕ) → T (not (isNan (ofBits binary32 b))) → T (not (nanBits binary32 b))
+number-bits b h = rw (nanBits-is binary32 b) h
+
+pub low-number : (b : ℕ) → b < 1115684864 → T (not (isNan (ofBits binary32 b)))
+low-number b h = rw (sym (nanBits-is binary32 b) ∙ (nanBits-above binary32 b ∙ le-ltb 2139095040 (b % 2147483648) (omega arith))) tt
+
 -- ── the candidate that the float 128 more gives ──
 
 abbrev more : Float → Float
 more x = add binary32 x (ofBits binary32 1124073472)
 
--- a float that does not differ from itself is a number
-number : (x : Float) → ne x x ≡ false → T (not (isNan x))
-unfolding ne eq isNan
-number nan e = absurd (subst T e tt)
-number (inf s) e = tt
-number (fin s m k) e = tt
+pub more-number : (x : Float) → T (not (isNan x)) → T (not (isNan (more x)))
+more-number x h = rw base-is (add-number x false 1 (pos 7) h)
 
-more-number : (x y : Float) → T (not (isNan (add binary32 x y))) → T (not (isNan x))
-unfolding add isNan
-more-number nan y t = t
-more-number (inf s) y t = tt
-more-number (fin s m e) y t = tt
-
-module _ (x : Float) where
-  -- of a coordinate's float
-  more-is : (m : ℕ) → m ≤ 4128768 → x ≡ floatOf m → more x ≡ floatOf (m + 8388608)
-  more-is m h e = ap more e ∙ float-more m (omega arith)
-
-  more-bits : (m : ℕ) → m ≤ 4128768 → x ≡ floatOf m → toBits binary32 (more x) ≡ 1124073472 + m
-  more-bits m h e = ap (toBits binary32) (more-is m h e) ∙ digits-are m h
-
-  pub candidate-none : ne (more x) (more x) ≡ true → Candidate x 4128769
-  candidate-none d =
-      let z : isNan (more x) ≡ true = ap isNan (differs-from-itself (more x) (subst T (sym d) tt)) ∙ unfold isNan in refl in
-      record {
-        only = λ m h e. absurd (subst (λ (b : Bool). T (not b)) (sym (ap isNan (more-is m h e)) ∙ z) (float-number (m + 8388608) (omega arith)));
-        number = λ h. absurd (omega arith);
-      }
-
-  module _ (d : ne (more x) (more x) ≡ false) where
-    pub more-held : T (not (isNan (more x)))
-    more-held = number (more x) d
-
-    pub candidate-low : toBits binary32 (more x) < 1124073472 → Candidate x 0
-    candidate-low l =
-        record {
-          only = λ m h e. omega (arith, more-bits m h e);
-          number = λ h. more-number x (ofBits binary32 1124073472) more-held;
-        }
-
-    pub candidate-high : Candidate x (toBits binary32 (more x) - 1124073472)
-    candidate-high =
-        record {
-          only = λ m h e. omega (arith, more-bits m h e);
-          number = λ h. more-number x (ofBits binary32 1124073472) more-held;
-        }
+pub candidate-is : (x : Float) → Candidate x (toBits binary32 (more x) % 8388608)
+candidate-is x =
+    record {
+      only = λ m h e. omega (arith, ap (λ (y : Float). toBits binary32 (more y)) e ∙ (ap (toBits binary32) (float-more m (omega arith)) ∙ digits-are m h));
+      small = omega arith;
+    }
 
 -- it decides
 module _ (x : Float) (f : T (fits binary32 x)) (n : ℕ) (k : Candidate x n) where
@@ -146,15 +154,29 @@ module _ (x : Float) (f : T (fits binary32 x)) (n : ℕ) (k : Candidate x n) whe
   candidate-decides h = go (eqb (toBits binary32 (floatOf n)) (toBits binary32 x)) refl
     where
       go : (b : Bool) → eqb (toBits binary32 (floatOf n)) (toBits binary32 x) ≡ b → b ≡ isImage x
-      go true q = sym (ap isImage (same-bits x (floatOf n) f (float-fits n) (sym (eqb-true (toBits binary32 (floatOf n)) (toBits binary32 x) q))) ∙ float-is-image n h)
+      go true q =
+          let e = sym (eqb-true (toBits binary32 (floatOf n)) (toBits binary32 x) q) in
+          sym (ap isImage (same-bits x (floatOf n) f (float-fits n) e) ∙ float-is-image n h)
       go false q =
           sym (none-image x f (λ m l e.
           eqb-false (toBits binary32 (floatOf n)) (toBits binary32 x) q
           (ap (λ (i : ℕ). toBits binary32 (floatOf i)) (k .only m l e) ∙ sym (ap (toBits binary32) e))))
 
-  pub candidate-word : isImage x ≡ true → (n ≤ 4128768) × (pos n ≡ wordOf x)
+  pub candidate-word : isImage x ≡ true → pos n ≡ wordOf x
   unfolding wordOf
   candidate-word e =
       let i = image-is-float x f e in
-      let q : n ≡ scaled x = k .only (scaled x) (i .0) (i .1) in
-      (omega (arith, i .0), ap pos q)
+      ap pos (k .only (scaled x) (i .0) (i .1))
+
+-- bits from 64's on are no coordinate's
+pub bits-high : (b : ℕ) → b < 4294967296 → 1115684864 ≤ b → false ≡ isImage (ofBits binary32 b)
+bits-high b h l =
+    let x = ofBits binary32 b in
+    sym (none-image x (ofBits-fits binary32 b) (λ n g e.
+    let i : toBits binary32 x ≡ b = toBits-ofBits binary32 b h (rw e (float-number n (omega arith))) in
+    omega (arith, sym i ∙ ap (toBits binary32) e, float-below n g)))
+
+pub bits-decide : (b n : ℕ) → b < 1115684864 → n ≤ 4128768 → Candidate (ofBits binary32 b) n → eqb (toBits binary32 (floatOf n)) b ≡ isImage (ofBits binary32 b)
+bits-decide b n h l k =
+    ap (eqb (toBits binary32 (floatOf n))) (sym (toBits-ofBits binary32 b (omega arith) (low-number b h)))
+    ∙ candidate-decides (ofBits binary32 b) (ofBits-fits binary32 b) n k l

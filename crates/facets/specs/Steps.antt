@@ -1,8 +1,8 @@
 -- Document 02 (i): coordinates as f32 in sample steps, and which floats are coordinates'. Assumes nothing.
 use mathlib.Core.Path.{_≡_}
 use mathlib.Core.Bool.{Bool, false, not, _&&_}
-use Prim.Native.Nat.{ℕ, _*_, _/_, _≤_}
-use lib.Dec.{T, leb, eqb}
+use Prim.Native.Nat.{ℕ, _*_, _/_, _<_, _≤_}
+use lib.Dec.{leb, eqb}
 use lib.IntN.{ℤ, pos, negsuc}
 use lib.Ieee.{Float, nan, inf, fin, up, down, binary32, round, toBits, isNan}
 
@@ -34,7 +34,7 @@ isImage x = leb (scaled x) 4128768 && not (isNan x) && eqb (toBits binary32 (flo
 unfoldable pub wordOf : Float → ℤ
 wordOf x = pos (scaled x)
 
--- n is the only coordinate whose float x can be; where n is one, x is a number
+-- n is the only coordinate whose float x can be
 pub record Candidate (x : Float) (n : ℕ) : Type 0 where
   pub only : (m : ℕ) → m ≤ 4128768 → x ≡ floatOf m → n ≡ m
-  pub number : n ≤ 4128768 → T (not (isNan x))
+  pub small : n < 8388608

@@ -1,8 +1,9 @@
 // Coordinates as f32 in sample steps, corners, and the facets of binary STL.
 ghost use mathlib.Core.Path.{_≡_};
 ghost use Prim.Native.Nat.{_+_, _≤_};
-ghost use mathlib.Core.Bool.{true};
-ghost use lib.Ieee.{binary32, ofBits};
+ghost use mathlib.Core.Bool.{true, not};
+ghost use lib.Dec.{T};
+ghost use lib.Ieee.{binary32, ofBits, isNan};
 ghost use lib.ListN.{length};
 ghost use lib.Seq.{sets};
 ghost use Rattle.lists.specs.Bytes.{field};
@@ -36,32 +37,28 @@ fn float_of(w: i32) -> f32
 
 // The only coordinate whose float x can be: between 128 and 256 floats lie 1/65,536 apart, so the sum's last digits are it.
 fn candidate(x: f32) -> u32
+    requires { ⌜ T (not (isNan x)) ⌝ }
     ensures { λ r. ⌜ Candidate x r ⌝ }
 {
-    let y = x + 128.0;
-    if y != y {
-        return 4128769;
-    }
-    let b = f32::to_bits(y);
-    if b < 1124073472 {
-        return 0;
-    }
-    b - 1124073472
+    f32::to_bits(x + 128.0) % 8388608
 }
 
-// Whether a float is a coordinate's.
-pub fn stands(x: f32) -> bool
-    ensures { λ r. ⌜ r ≡ isImage x ⌝ }
+// Whether 32 bits are those of a coordinate's float. From 64 on, below 0 and of no number they are not.
+fn bits_stand(b: u32) -> bool
+    ensures { λ r. ⌜ r ≡ isImage (ofBits binary32 b) ⌝ }
 {
-    let n = candidate(x);
+    if b >= 1115684864 {
+        return false;
+    }
+    let n = candidate(f32::from_bits(b));
     if n > 4128768 {
         return false;
     }
-    f32::to_bits(float_of(n as i32)) == f32::to_bits(x)
+    f32::to_bits(float_of(n as i32)) == b
 }
 
 // The coordinate of a float that has one, as a sheet's number.
-pub fn word_of(x: f32) -> i32
+fn word_of(x: f32) -> i32
     requires { ⌜ isImage x ≡ true ⌝ }
     ensures { λ r. ⌜ r ≡ wordOf x ⌝ }
 {
@@ -101,20 +98,30 @@ fn put_corner(out: &mut [u8], at: usize, c: Corner)
     codec::put_u32(out, at + 8, f32::to_bits(c.z));
 }
 
-// The float that four bytes give. Bits of no number are not made a float, and 0 / 0 stands for them.
+// Whether the three floats from at on are coordinates'.
+fn corner_taken(s: &[u8], at: usize) -> bool
+    requires { ⌜ at + 12 ≤ length (now s) ⌝ }
+    ensures { λ r. ⌜ r ≡ cornerStands (cornerAt (now (s .entry)) at) ⌝ }
+{
+    if !bits_stand(codec::get_u32(s, at)) {
+        return false;
+    }
+    if !bits_stand(codec::get_u32(s, at + 4)) {
+        return false;
+    }
+    bits_stand(codec::get_u32(s, at + 8))
+}
+
+// The float that four bytes give, which is a coordinate's.
 fn float_at(s: &[u8], at: usize) -> f32
-    requires { ⌜ at + 4 ≤ length (now s) ⌝ }
+    requires { ⌜ (at + 4 ≤ length (now s)) × (isImage (ofBits binary32 (field 4 (now s) at)) ≡ true) ⌝ }
     ensures { λ r. ⌜ r ≡ ofBits binary32 (field 4 (now (s .entry)) at) ⌝ }
 {
-    let b = codec::get_u32(s, at);
-    if b % 2147483648 > 2139095040 {
-        return 0.0 / 0.0;
-    }
-    f32::from_bits(b)
+    f32::from_bits(codec::get_u32(s, at))
 }
 
 fn get_corner(s: &[u8], at: usize) -> Corner
-    requires { ⌜ at + 12 ≤ length (now s) ⌝ }
+    requires { ⌜ (at + 12 ≤ length (now s)) × (cornerStands (cornerAt (now s) at) ≡ true) ⌝ }
     ensures { λ r. ⌜ r ≡ cornerAt (now (s .entry)) at ⌝ }
 {
     Corner {
@@ -122,18 +129,6 @@ fn get_corner(s: &[u8], at: usize) -> Corner
         y: float_at(s, at + 4),
         z: float_at(s, at + 8),
     }
-}
-
-fn corner_stands(c: Corner) -> bool
-    ensures { λ r. ⌜ r ≡ cornerStands c ⌝ }
-{
-    if !stands(c.x) {
-        return false;
-    }
-    if !stands(c.y) {
-        return false;
-    }
-    stands(c.z)
 }
 
 // The three coordinates of a corner that has them.
@@ -162,31 +157,29 @@ pub fn put_facet(out: &mut [u8], at: usize, a: Corner, b: Corner, c: Corner)
     codec::put_u16(out, at + 48, 0);
 }
 
-// The corners of a facet in the sheet's order. Normal and attribute are not looked at.
-pub fn get_facet(s: &[u8], at: usize) -> Facet
+// Whether all floats of the facet are coordinates'. Normal and attribute are not looked at.
+pub fn facet_taken(s: &[u8], at: usize) -> bool
     requires { ⌜ at + 50 ≤ length (now s) ⌝ }
+    ensures { λ r. ⌜ r ≡ facetStands (facetAt (now (s .entry)) at) ⌝ }
+{
+    if !corner_taken(s, at + 12) {
+        return false;
+    }
+    if !corner_taken(s, at + 36) {
+        return false;
+    }
+    corner_taken(s, at + 24)
+}
+
+// The corners of a facet in the sheet's order.
+pub fn get_facet(s: &[u8], at: usize) -> Facet
+    requires { ⌜ (at + 50 ≤ length (now s)) × (facetStands (facetAt (now s) at) ≡ true) ⌝ }
     ensures { λ r. ⌜ r ≡ facetAt (now (s .entry)) at ⌝ }
 {
     let a = get_corner(s, at + 12);
     let c = get_corner(s, at + 24);
     let b = get_corner(s, at + 36);
     Facet { a: a, b: b, c: c }
-}
-
-// Whether all its floats are coordinates'.
-pub fn facet_stands(f: Facet) -> bool
-    ensures { λ r. ⌜ r ≡ facetStands f ⌝ }
-{
-    let a = f.a;
-    let b = f.b;
-    let c = f.c;
-    if !corner_stands(a) {
-        return false;
-    }
-    if !corner_stands(b) {
-        return false;
-    }
-    corner_stands(c)
 }
 
 // Its nine coordinates.

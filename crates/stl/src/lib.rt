@@ -183,22 +183,13 @@ fn facet_count(bytes: &[u8]) -> usize
     codec::get_u32(bytes, 80) as usize
 }
 
-// Whether all floats of facet i are coordinates'.
-fn facet_taken(bytes: &[u8], i: usize) -> bool
-    requires { ⌜ 84 + 50 * i + 50 ≤ length (now bytes) ⌝ }
-    ensures { λ r. ⌜ r ≡ facetStands (stlFacet (now (bytes .entry)) i) ⌝ }
-{
-    let f = facets::get_facet(bytes, 84 + 50 * i);
-    facets::facet_stands(f)
-}
-
 // The first of n facets with a float that no coordinate gives, or n.
 fn first_untaken(bytes: &[u8], n: usize) -> usize
     requires { ⌜ (n ≡ stlCount (now bytes)) × (stlLength n ≤ length (now bytes)) ⌝ }
     ensures { λ r. ⌜ r ≡ firstUntaken (now (bytes .entry)) ⌝ }
 {
     for i in 0..n {
-        if !facet_taken(bytes, i) {
+        if !facets::facet_taken(bytes, 84 + 50 * i) {
             return i;
         }
     }

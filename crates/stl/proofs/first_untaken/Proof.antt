@@ -20,11 +20,17 @@ abbrev μ-loop : tie.MeasureT-loop
 loop-holds : tie.Need-loop-holds Inv-loop μ-loop
 loop-holds c = (omega arith, below-none _)
 
+mul-facet-taken : tie.Need-mul-facet-taken Inv-loop μ-loop
+mul-facet-taken c = omega arith
+
+add-facet-taken : tie.Need-add-facet-taken Inv-loop μ-loop
+add-facet-taken c = omega arith
+
 facet-taken-requires : tie.Need-facet-taken-requires Inv-loop μ-loop
 facet-taken-requires c κs = omega arith
 
 returns : tie.Need-returns Inv-loop μ-loop
-unfolding firstUntaken
+unfolding firstUntaken stlFacet
 returns c =
     let l = c .before .before .before .loop in
     let s = c .before .before .before .before .before in
@@ -39,6 +45,7 @@ loop-less : tie.Need-loop-less Inv-loop μ-loop
 loop-less c = omega arith
 
 loop-again : tie.Need-loop-again Inv-loop μ-loop
+unfolding stlFacet
 loop-again c =
     let l = c .before .before .before .loop in
     (omega arith, below-more _ (l .i) (l .inv .1) (sym (ap not (c .before .facet-taken .ensures)) ∙ c .if1 .left))
@@ -54,6 +61,8 @@ first-untaken-spec =
     Inv-loop
     μ-loop
     loop-holds
+    mul-facet-taken
+    add-facet-taken
     facet-taken-requires
     returns
     add-i

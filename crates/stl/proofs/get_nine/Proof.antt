@@ -18,7 +18,8 @@ add-get-facet : tie.Need-add-get-facet
 add-get-facet c = search needs
 
 get-facet-requires : tie.Need-get-facet-requires
-get-facet-requires c κs = search needs
+unfolding stlFacet
+get-facet-requires c κs = (omega arith, c .before .pre .2)
 
 mul-put-nine : tie.Need-mul-put-nine
 mul-put-nine c = search needs
