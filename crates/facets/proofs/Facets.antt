@@ -17,7 +17,8 @@ use Rattle.lists.proofs.Stores.{sets-next}
 use Rattle.codec.proofs.Bytes.{unle-le, field-part}
 use Rattle.facets.specs.declared.Corner.{Corner}
 use Rattle.facets.specs.declared.Facet.{Facet}
-use Rattle.facets.specs.Facets.{Bounded, Numbers, cornerOf, cornerBytes, cornerAt, cornerStands, cornerWords, facetBytes, facetAt, facetStands, facetWords}
+use Rattle.facets.specs.Facets.{Bounded, Numbers, cornerOf, cornerBytes, cornerAt, cornerStands, cornerWords}
+use Rattle.facets.specs.Facets.{facetBytes, facetAt, facetStands, facetWords}
 use Rattle.paper.proofs.Judged.{both}
 use Rattle.facets.specs.Steps.{isImage}
 use Rattle.facets.proofs.Floats.{float-number}
@@ -35,7 +36,8 @@ pub floats-stand : (c : Corner) → cornerStands c ≡ true → (isImage (c .x) 
 unfolding cornerStands
 floats-stand c e = three (isImage (c .x)) (isImage (c .y)) (isImage (c .z)) e
 
-pub corners-stand : (f : Facet) → facetStands f ≡ true → (cornerStands (f .a) ≡ true) × (cornerStands (f .b) ≡ true) × (cornerStands (f .c) ≡ true)
+pub corners-stand : (f : Facet) → facetStands f ≡ true
+    → (cornerStands (f .a) ≡ true) × (cornerStands (f .b) ≡ true) × (cornerStands (f .c) ≡ true)
 unfolding facetStands
 corners-stand f e = three (cornerStands (f .a)) (cornerStands (f .b)) (cornerStands (f .c)) e
 
@@ -54,17 +56,22 @@ pub seven : (l : List ℕ) {l₁ l₂ l₃ l₄ l₅ l₆ l₇ : List ℕ} (at :
     → l₇ ≡ sets l₆ (at + 48) (le 2 0) → l₇ ≡ sets l at (facetBytes a b c)
 unfolding facetBytes
 seven l at a b c e₁ e₂ e₃ e₄ e₅ e₆ e₇ =
-    let f₃ = sets-next l at (at + 8) (le 4 0 ++ le 4 0) (le 4 0) refl (sets-next l at (at + 4) (le 4 0) (le 4 0) refl e₁ e₂) e₃ in
-    let f₄ = sets-next l at (at + 12) noNormal (cornerBytes a) refl f₃ e₄ in
-    let n₄ = length-append noNormal (cornerBytes a) in
-    let n₅ = length-append (noNormal ++ cornerBytes a) (cornerBytes c) in
-    let n₆ = length-append (noNormal ++ cornerBytes a ++ cornerBytes c) (cornerBytes b) in
-    let f₅ = sets-next l at (at + 24) (noNormal ++ cornerBytes a) (cornerBytes c) (omega (arith, n₄, corner-length a)) f₄ e₅ in
-    let f₆ = sets-next l at (at + 36) (noNormal ++ cornerBytes a ++ cornerBytes c) (cornerBytes b) (omega (arith, n₄, n₅, corner-length a, corner-length c)) f₅ e₆ in
-    sets-next l at (at + 48) (noNormal ++ cornerBytes a ++ cornerBytes c ++ cornerBytes b) (le 2 0) (omega (arith, n₄, n₅, n₆, corner-length a, corner-length b, corner-length c)) f₆ e₇
+    let w₁ = noNormal ++ cornerBytes a in
+    let w₂ = w₁ ++ cornerBytes c in
+    let w₃ = w₂ ++ cornerBytes b in
+    let n₁ : length w₁ ≡ 24 = omega (arith, length-append noNormal (cornerBytes a), corner-length a) in
+    let n₂ : length w₂ ≡ 36 = omega (arith, length-append w₁ (cornerBytes c), corner-length c) in
+    let n₃ : length w₃ ≡ 48 = omega (arith, length-append w₂ (cornerBytes b), corner-length b) in
+    sets-next l at (at + 48) w₃ (le 2 0) (omega arith)
+    (sets-next l at (at + 36) w₂ (cornerBytes b) (omega arith)
+    (sets-next l at (at + 24) w₁ (cornerBytes c) (omega arith)
+    (sets-next l at (at + 12) noNormal (cornerBytes a) refl
+    (sets-next l at (at + 8) (le 4 0 ++ le 4 0) (le 4 0) refl (sets-next l at (at + 4) (le 4 0) (le 4 0) refl e₁ e₂) e₃) e₄) e₅) e₆) e₇
 
 -- the coordinates of three corners, one after another
-pub nine : (l : List ℤ) {l₁ l₂ l₃ : List ℤ} (at : ℕ) (f : Facet) → l₁ ≡ sets l at (cornerWords (f .a)) → l₂ ≡ sets l₁ (at + 3) (cornerWords (f .b))
+pub nine : (l : List ℤ) {l₁ l₂ l₃ : List ℤ} (at : ℕ) (f : Facet)
+    → l₁ ≡ sets l at (cornerWords (f .a))
+    → l₂ ≡ sets l₁ (at + 3) (cornerWords (f .b))
     → l₃ ≡ sets l₂ (at + 6) (cornerWords (f .c)) → l₃ ≡ sets l at (facetWords f)
 unfolding facetWords cornerWords
 nine l at f e₁ e₂ e₃ =
@@ -84,7 +91,8 @@ module _ (bs : List ℕ) (at : ℕ) (a b c : Corner) (room : at + 50 ≤ length 
       → ofBits binary32 (field 4 bs (at + j)) ≡ x
   float-in j x f h e =
       ap (ofBits binary32)
-      (field-part 4 50 bs at j room h ∙ (ap (λ (l : List ℕ). field 4 l j) is ∙ (e ∙ unle-le 4 (toBits binary32 x) (toBits-lt binary32 x f))))
+      (field-part 4 50 bs at j room h
+      ∙ (ap (λ (l : List ℕ). field 4 l j) is ∙ (e ∙ unle-le 4 (toBits binary32 x) (toBits-lt binary32 x f))))
       ∙ ofBits-toBits binary32 x f
 
   corner-in : (j : ℕ) (d : Corner) → Held d → j + 12 ≤ 50

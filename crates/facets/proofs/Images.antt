@@ -7,7 +7,8 @@ use borrow.Author.Tests.{le-leb, leb-true, le-ltb, eq-eqb, eqb-true, eqb-false, 
 use lib.Dec.{T, leb, ltb, eqb}
 use lib.IntN.{ℤ, pos, negsuc}
 use lib.Signed.{leZ, ltZ}
-use lib.Ieee.{Float, nan, inf, fin, Format, binary32, prec, emax, low, up, down, add, sum, round, units, odd, fits, ofBits, toBits, isNan, nanBits}
+use lib.Ieee.{Float, nan, inf, fin, Format, binary32, prec, emax, low, up, down, fits, ofBits, toBits, isNan, nanBits}
+use lib.Ieee.{add, sum, round, units, odd}
 use lib.Ieee.Bits.{ofBits-toBits, toBits-ofBits, ofBits-fits, nanBits-is, nanBits-above, is-true}
 use lib.Ieee.Fits.{round-fits}
 use Rattle.paper.proofs.Judged.{both}
@@ -107,8 +108,10 @@ cond-number false x y g h = h
 sum-number : (f : Format) (s : Bool) (a : ℕ) (t : Bool) (b c : ℕ) → T (not (isNan (sum f s a t b c)))
 unfolding sum
 sum-number f s a t b c =
-    cond-number (Bool·beq s t) (round f s (a + b) c) (cond (ltb a b) (round f t (b - a) c) (round f (s && ltb b a) (a - b) c)) (round-number f s (a + b) c)
-    (cond-number (ltb a b) (round f t (b - a) c) (round f (s && ltb b a) (a - b) c) (round-number f t (b - a) c) (round-number f (s && ltb b a) (a - b) c))
+    let low = round f t (b - a) c in
+    let high = round f (s && ltb b a) (a - b) c in
+    cond-number (Bool·beq s t) (round f s (a + b) c) (cond (ltb a b) low high) (round-number f s (a + b) c)
+    (cond-number (ltb a b) low high (round-number f t (b - a) c) (round-number f (s && ltb b a) (a - b) c))
 
 add-number : (x : Float) (t : Bool) (n : ℕ) (d : ℤ) → T (not (isNan x)) → T (not (isNan (add binary32 x (fin t n d))))
 unfolding add
@@ -141,7 +144,7 @@ more-number x h = rw base-is (add-number x false 1 (pos 7) h)
 pub candidate-is : (x : Float) → Candidate x (toBits binary32 (more x) % 8388608)
 candidate-is x =
     record {
-      only = λ m h e. omega (arith, ap (λ (y : Float). toBits binary32 (more y)) e ∙ (ap (toBits binary32) (float-more m (omega arith)) ∙ digits-are m h));
+      only = λ m h e. omega (arith, ap (toBits binary32) (ap more e ∙ float-more m (omega arith)) ∙ digits-are m h);
       small = omega arith;
     }
 
@@ -176,7 +179,8 @@ bits-high b h l =
     let i : toBits binary32 x ≡ b = toBits-ofBits binary32 b h (rw e (float-number n (omega arith))) in
     omega (arith, sym i ∙ ap (toBits binary32) e, float-below n g)))
 
-pub bits-decide : (b n : ℕ) → b < 1115684864 → n ≤ 4128768 → Candidate (ofBits binary32 b) n → eqb (toBits binary32 (floatOf n)) b ≡ isImage (ofBits binary32 b)
+pub bits-decide : (b n : ℕ) → b < 1115684864 → n ≤ 4128768 → Candidate (ofBits binary32 b) n
+    → eqb (toBits binary32 (floatOf n)) b ≡ isImage (ofBits binary32 b)
 bits-decide b n h l k =
     ap (eqb (toBits binary32 (floatOf n))) (sym (toBits-ofBits binary32 b (omega arith) (low-number b h)))
     ∙ candidate-decides (ofBits binary32 b) (ofBits-fits binary32 b) n k l

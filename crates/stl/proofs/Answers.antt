@@ -60,7 +60,8 @@ module _ (nv nt : ℕ) (vs : List ℤ) (ts : List ℕ) where
   write-numbered room = (omega arith, (omega arith, (omega arith, (omega arith, tt))))
 
   module _ (before : List ℕ) (v : Verdict) (is : v ≡ stlWriteVerdict nv nt vs ts (length before)) where
-    pub write-refused : (v .number ≡ 0 → ⊥) → StlWrites nv nt vs ts before (record { number = v .number; place = v .place; bytes = 0 }) before
+    pub write-refused : (v .number ≡ 0 → ⊥)
+        → StlWrites nv nt vs ts before (record { number = v .number; place = v .place; bytes = 0 }) before
     unfolding stlWrote outputAfter
     write-refused h = record { answer = rw (← is, ne-eqb (v .number) 0 h); left = rw (← is, ne-eqb (v .number) 0 h) }
 
@@ -117,7 +118,12 @@ module _ (bs : List ℕ) where
       let n = stlCount bs in
       let u : firstUntaken bs ≡ n = sym (first-missing _ n (λ k h. ap not (s .stand k h))) in
       read-tests n (firstUntaken bs) room refl refl
-      ∙ rw (le-leb 84 (length bs) (omega (arith, s .long)), eq-eqb (length bs) (84 + 50 * n) (s .long), eq-eqb (firstUntaken bs) n u, le-leb (9 * n) room (s .roomy))
+      ∙ rw (
+        le-leb 84 (length bs) (omega (arith, s .long)),
+        eq-eqb (length bs) (84 + 50 * n) (s .long),
+        eq-eqb (firstUntaken bs) n u,
+        le-leb (9 * n) room (s .roomy),
+      )
 
   module _ (before : List ℤ) (v : Verdict) (is : v ≡ stlReadVerdict bs (length before)) where
     pub read-refused : (v .number ≡ 0 → ⊥) → StlReads bs before (record { number = v .number; place = v .place; facets = 0 }) before
@@ -130,7 +136,8 @@ module _ (bs : List ℕ) where
           let n = stlCount bs in
           let room = length before in
           let t = readTests n (firstUntaken bs) room in
-          let e : judge t .number ≡ 0 = ap (λ (w : Verdict). w .number) (sym (read-tests n (firstUntaken bs) room refl refl) ∙ sym is) ∙ h in
+          let q : judge t ≡ v = sym (is ∙ read-tests n (firstUntaken bs) room refl refl) in
+          let e : judge t .number ≡ 0 = ap (λ (w : Verdict). w .number) q ∙ h in
           let a : Passed t = judge-all t (read-numbered n (firstUntaken bs) room) e in
           record {
             long = eqb-true _ _ (both (leb 84 (length bs)) (eqb (length bs) (84 + 50 * n)) (a .0) .1);

@@ -48,7 +48,9 @@ unfolding vertexCorner
 vertex-numbers vs v e = corner-numbers _ _ _ (vertex-bounded vs v e)
 
 pub corners-within : (vs : List ℤ) (ts : List ℕ) (i : ℕ) → triangleWithin vs ts i ≡ true
-    → (vertexWithin vs (getD ts (3 * i) 0) ≡ true) × (vertexWithin vs (getD ts (3 * i + 1) 0) ≡ true) × (vertexWithin vs (getD ts (3 * i + 2) 0) ≡ true)
+    → (vertexWithin vs (getD ts (3 * i) 0) ≡ true)
+    × (vertexWithin vs (getD ts (3 * i + 1) 0) ≡ true)
+    × (vertexWithin vs (getD ts (3 * i + 2) 0) ≡ true)
 unfolding triangleWithin
 corners-within vs ts i e = three _ _ _ e
 
@@ -61,13 +63,15 @@ pub file-long : (nt : ℕ) (vs : List ℤ) (ts : List ℕ) → length (stlBytes 
 unfolding stlBytes
 file-long nt vs ts =
     let e = each (triangleBytes vs ts) (range 0 nt) in
-    omega (arith, length-append (header ++ le 4 nt) e, length-append header (le 4 nt), header-long, run-length (triangleBytes vs ts) 50 (bytes-long vs ts) nt)
+    let n = run-length (triangleBytes vs ts) 50 (bytes-long vs ts) nt in
+    omega (arith, length-append (header ++ le 4 nt) e, length-append header (le 4 nt), header-long)
 
 pub file-stored : (nt : ℕ) (vs : List ℤ) (ts l : List ℕ) {l₁ l₂ l₃ : List ℕ} → 84 + 50 * nt ≤ length l
     → l₁ ≡ sets l 0 header → l₂ ≡ sets l₁ 80 (le 4 nt) → l₃ ≡ sets l₂ 84 (each (triangleBytes vs ts) (range 0 nt))
     → l₃ ≡ over (stlBytes nt vs ts) l
 unfolding stlBytes
 file-stored nt vs ts l h e₁ e₂ e₃ =
-    sets-next l 0 84 (header ++ le 4 nt) (each (triangleBytes vs ts) (range 0 nt)) (omega (arith, length-append header (le 4 nt), header-long))
+    let n : 0 + length (header ++ le 4 nt) ≡ 84 = omega (arith, length-append header (le 4 nt), header-long) in
+    sets-next l 0 84 (header ++ le 4 nt) (each (triangleBytes vs ts) (range 0 nt)) n
     (sets-next l 0 80 header (le 4 nt) (omega (arith, header-long)) e₁ e₂) e₃
     ∙ sets-front l (stlBytes nt vs ts) (omega (arith, file-long nt vs ts))

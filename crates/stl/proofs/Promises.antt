@@ -18,8 +18,8 @@ use Rattle.paper.specs.Build.{outputAfter}
 use Rattle.facets.specs.declared.Corner.{Corner}
 use Rattle.facets.specs.Steps.{floatOf, scaled, isImage, natOf}
 use Rattle.facets.specs.Facets.{cornerOf}
-use Rattle.facets.proofs.Floats.{exact, float-number, scaled-float}
-use Rattle.facets.proofs.Images.{float-fits, float-is-image, image-is-float, bounds-are}
+use Rattle.facets.proofs.Floats.{exact, scaled-float}
+use Rattle.facets.proofs.Images.{float-fits, float-is-image, image-is-float, image-number, bounds-are}
 use Rattle.stl.specs.declared.Loaded.{Loaded}
 use Rattle.stl.specs.Stl.{numberOf, vertexCorner, vertexWithin, nineOf, stlBytes, stlWriteVerdict, stlWrote, StlWrites}
 use Rattle.stl.specs.Stl.{stlCount, stlFacet, stlWords, stlReadVerdict, stlLoaded, StlReads}
@@ -45,7 +45,7 @@ pub taken-bits : (b : ℕ) → b < 4294967296 → isImage (ofBits binary32 b) �
 taken-bits b h e =
     let x = ofBits binary32 b in
     let i = image-is-float x (ofBits-fits binary32 b) e in
-    (scaled x, i .0, sym (toBits-ofBits binary32 b h (rw (i .1) (float-number (scaled x) (omega (arith, i .0))))) ∙ ap (toBits binary32) (i .1))
+    (scaled x, i .0, sym (toBits-ofBits binary32 b h (image-number x e)) ∙ ap (toBits binary32) (i .1))
 
 pub bits-taken : (b n : ℕ) → n ≤ 4128768 → b ≡ toBits binary32 (floatOf n) → isImage (ofBits binary32 b) ≡ true
 bits-taken b n h e =
@@ -74,7 +74,8 @@ pub record Returned (nt : ℕ) (words before : List ℤ) (g : Loaded) (after : L
   pub answer : g ≡ record { number = 0; place = 0; facets = nt }
   pub left : after ≡ over words before
 
-module _ {nv nt : ℕ} {vs : List ℤ} {ts before after : List ℕ} {r : Wrote} (w : StlWrites nv nt vs ts before r after) (h : r .number ≡ 0) where
+module _ {nv nt : ℕ} {vs : List ℤ} {ts before after : List ℕ} {r : Wrote}
+    (w : StlWrites nv nt vs ts before r after) (h : r .number ≡ 0) where
   passed : stlWriteVerdict nv nt vs ts (length before) .number ≡ 0
   unfolding stlWrote
   passed = ap (λ (x : Wrote). x .number) (sym (w .answer)) ∙ h

@@ -55,7 +55,8 @@ row-of c l = record { case = c; is = l }
 -- the sheet of the listing in document 01, with a fourth vertex at (x, 4,128,768, 0)
 vertices : ℤ → List ℤ
 vertices x =
-    pos 0 ∷ pos 49152 ∷ pos 0 ∷ pos 0 ∷ pos 1 ∷ pos 0 ∷ pos 49152 ∷ pos 0 ∷ pos 2 ∷ pos 0 ∷ pos 0 ∷ pos 49152 ∷ pos 3 ∷ x ∷ pos 4128768 ∷ pos 0 ∷ []
+    (pos 0 ∷ pos 49152 ∷ pos 0 ∷ pos 0 ∷ pos 1 ∷ pos 0 ∷ pos 49152 ∷ pos 0 ∷ pos 2 ∷ pos 0 ∷ pos 0 ∷ pos 49152 ∷ [])
+    ++ pos 3 ∷ x ∷ pos 4128768 ∷ pos 0 ∷ []
 
 triangle : List ℕ
 triangle = 1 ∷ 2 ∷ 0 ∷ []

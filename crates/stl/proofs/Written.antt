@@ -76,13 +76,15 @@ module _ (nt : ℕ) (vs : List ℤ) (ts : List ℕ) where
         let facets = each f (range 0 nt) in
         let front : length (header ++ le 4 nt) ≡ 84 = omega (arith, length-append header (le 4 nt), header-long) in
         ap (take 50)
-        (sym (drop-drop (50 * i) 84 (stlBytes nt vs ts)) ∙ ap (drop (50 * i)) (drop-at (header ++ le 4 nt) facets 84 front ∙ sym (append-nil facets)))
+        (sym (drop-drop (50 * i) 84 (stlBytes nt vs ts))
+        ∙ ap (drop (50 * i)) (drop-at (header ++ le 4 nt) facets 84 front ∙ sym (append-nil facets)))
         ∙ (each-at f 50 (bytes-long vs ts) (range 0 nt) [] 0 i (omega (arith, length-range 0 nt)) ∙ ap f (range-at 0 nt i h ∙ zero-add i))
 
     pub written-facet : stlFacet (stlBytes nt vs ts) i ≡ triangleFacet vs ts i
     unfolding stlFacet triangleBytes
     written-facet =
-        facet-back (stlBytes nt vs ts) (84 + 50 * i) _ _ _ (omega (arith, file-long nt vs ts)) written-part (vertex-held vs _) (vertex-held vs _) (vertex-held vs _)
+        facet-back (stlBytes nt vs ts) (84 + 50 * i) _ _ _ (omega (arith, file-long nt vs ts)) written-part
+        (vertex-held vs _) (vertex-held vs _) (vertex-held vs _)
 
     module _ (within : AllWithin nt vs ts) where
       written-stands : facetStands (stlFacet (stlBytes nt vs ts) i) ≡ true

@@ -15,6 +15,11 @@ pub record Named (vs : List ℤ) (ts : List ℕ) (i : ℕ) : Type 0 where
   pub second : 4 * getD ts (3 * i + 1) 0 + 4 ≤ length vs
   pub third : 4 * getD ts (3 * i + 2) 0 + 4 ≤ length vs
 
+-- and their coordinates are within
+pub record Ready (vs : List ℤ) (ts : List ℕ) (i : ℕ) : Type 0 where
+  pub named : Named vs ts i
+  pub within : triangleWithin vs ts i ≡ true
+
 abbrev pub AllNamed : ℕ → List ℤ → List ℕ → Type 0
 AllNamed nt vs ts = (i : ℕ) → i < nt → Named vs ts i
 

@@ -14,7 +14,7 @@ ghost use Rattle.facets.specs.Facets.{facetStands};
 ghost use Rattle.stl.specs.Stl.{vertexCorner, vertexWithin, triangleBytes, triangleWithin};
 ghost use Rattle.stl.specs.Stl.{header, stlLength, stlBytes, firstOutside, stlWriteVerdict, StlWrites};
 ghost use Rattle.stl.specs.Stl.{stlCount, stlFacet, nineAt, firstUntaken, stlReadVerdict, StlReads};
-ghost use Rattle.stl.specs.Within.{Named, AllNamed, AllWithin, Fine, AllStand};
+ghost use Rattle.stl.specs.Within.{Named, AllNamed, Ready, Fine, AllStand};
 
 // The answer of a reader.
 #[repr(C)]
@@ -95,13 +95,14 @@ fn writable(nv: usize, nt: usize, vertices: &[i32], triangles: &[u32], room: usi
         };
     }
     let outside = first_outside(nt, vertices, triangles);
+    let long = 84 + 50 * nt;
     if outside != nt {
         return Verdict {
             number: 25,
             place: outside,
         };
     }
-    if room < 84 + 50 * nt {
+    if room < long {
         return Verdict {
             number: 8,
             place: 0,
@@ -125,8 +126,9 @@ fn put_header(bytes: &mut [u8])
 
 // The facet of triangle i.
 fn put_triangle(vertices: &[i32], triangles: &[u32], i: usize, bytes: &mut [u8])
-    requires { ⌜ Named (now vertices) (now triangles) i × (triangleWithin (now vertices) (now triangles) i ≡ true) × (84 + 50 * i + 50 ≤ length (now bytes)) ⌝ }
-    ensures { λ _. ⌜ now (bytes .exit) ≡ sets (now (bytes .entry)) (84 + 50 * i) (triangleBytes (now (vertices .entry)) (now (triangles .entry)) i) ⌝ }
+    requires { ⌜ Ready (now vertices) (now triangles) i × (84 + 50 * i + 50 ≤ length (now bytes)) ⌝ }
+    ensures { λ _. ⌜ now (bytes .exit)
+        ≡ sets (now (bytes .entry)) (84 + 50 * i) (triangleBytes (now (vertices .entry)) (now (triangles .entry)) i) ⌝ }
 {
     let at = 3 * i;
     let a = corner_at(vertices, triangles[at] as usize);
@@ -137,7 +139,8 @@ fn put_triangle(vertices: &[i32], triangles: &[u32], i: usize, bytes: &mut [u8])
 
 fn put_triangles(nt: usize, vertices: &[i32], triangles: &[u32], bytes: &mut [u8])
     requires { ⌜ Fine nt (now vertices) (now triangles) (length (now bytes)) ⌝ }
-    ensures { λ _. ⌜ now (bytes .exit) ≡ sets (now (bytes .entry)) 84 (each (triangleBytes (now (vertices .entry)) (now (triangles .entry))) (range 0 nt)) ⌝ }
+    ensures { λ _. ⌜ now (bytes .exit)
+        ≡ sets (now (bytes .entry)) 84 (each (triangleBytes (now (vertices .entry)) (now (triangles .entry))) (range 0 nt)) ⌝ }
 {
     for i in 0..nt {
         put_triangle(vertices, triangles, i, bytes);
@@ -213,14 +216,15 @@ fn readable(bytes: &[u8], room: usize) -> Verdict
             place: 0,
         };
     }
-    let bad = first_untaken(bytes, n);
-    if bad != n {
+    let untaken = first_untaken(bytes, n);
+    let words = 9 * n;
+    if untaken != n {
         return Verdict {
             number: 25,
-            place: bad,
+            place: untaken,
         };
     }
-    if room < 9 * n {
+    if room < words {
         return Verdict {
             number: 7,
             place: 0,
@@ -234,7 +238,8 @@ fn readable(bytes: &[u8], room: usize) -> Verdict
 
 // The nine integers of facet i.
 fn get_nine(bytes: &[u8], i: usize, out: &mut [i32])
-    requires { ⌜ (84 + 50 * i + 50 ≤ length (now bytes)) × (9 * i + 9 ≤ length (now out)) × (facetStands (stlFacet (now bytes) i) ≡ true) ⌝ }
+    requires { ⌜ (84 + 50 * i + 50 ≤ length (now bytes)) × (9 * i + 9 ≤ length (now out))
+        × (facetStands (stlFacet (now bytes) i) ≡ true) ⌝ }
     ensures { λ _. ⌜ now (out .exit) ≡ sets (now (out .entry)) (9 * i) (nineAt (now (bytes .entry)) i) ⌝ }
 {
     let f = facets::get_facet(bytes, 84 + 50 * i);

@@ -43,7 +43,9 @@ float-to-bits-result : tie.Need-float-to-bits-result
 float-to-bits-result c = rw (float-is c) (float-number _ (omega arith))
 
 returns-3 : tie.Need-returns-3
-returns-3 c = rw (float-is c) (bits-decide (c .before .before .before .before .args .b) _ (omega arith) (omega arith) (c .before .before .candidate .ensures))
+returns-3 c =
+    let b = c .before .before .before .before .args .b in
+    rw (float-is c) (bits-decide b _ (omega arith) (omega arith) (c .before .before .candidate .ensures))
 
 pub bits-stand-spec : {M : Type 1} → statement M
 bits-stand-spec =

@@ -38,8 +38,9 @@ unfolding facetStands facetAt
 returns-3 c =
     let passed₂ = c .before in
     let passed₁ = passed₂ .before .before in
-    rw (passes (passed₁ .before .corner-taken .ensures) (passed₁ .if1 .left), passes (passed₂ .before .corner-taken2 .ensures) (passed₂ .if2 .left))
-    (c .corner-taken3 .ensures)
+    let first = passes (passed₁ .before .corner-taken .ensures) (passed₁ .if1 .left) in
+    let second = passes (passed₂ .before .corner-taken2 .ensures) (passed₂ .if2 .left) in
+    rw (first, second) (c .corner-taken3 .ensures)
 
 pub facet-taken-spec : {M : Type 1} → statement M
 facet-taken-spec =

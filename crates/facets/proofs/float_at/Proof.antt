@@ -12,7 +12,8 @@ get-u32-requires : tie.Need-get-u32-requires
 get-u32-requires c κs = search needs
 
 float-from-bits-result : tie.Need-float-from-bits-result
-float-from-bits-result c = number-bits _ (image-number _ (ap (λ (b : ℕ). isImage (ofBits binary32 b)) (c .get-u32 .ensures) ∙ c .before .before .pre .1))
+float-from-bits-result c =
+    number-bits _ (image-number _ (ap (λ (b : ℕ). isImage (ofBits binary32 b)) (c .get-u32 .ensures) ∙ c .before .before .pre .1))
 
 returns : tie.Need-returns
 returns c = ap (ofBits binary32) (c .get-u32 .ensures)

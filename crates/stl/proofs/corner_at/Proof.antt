@@ -17,8 +17,11 @@ read : (c : tie.After-corner-of-arg3)
     → let a = c .before .before .before .args in
     let n : ℕ → ℤ = λ k. numberOf (now (a .vertices)) (a .v) k in
     (toZ w32 (ofZ w32 (n 1)) ≡ n 1) × (toZ w32 (ofZ w32 (n 2)) ≡ n 2) × (toZ w32 (ofZ w32 (n 3)) ≡ n 3)
-read c =
-    (toZ-ofZ (record { sfits = c .before .before .corner-of-arg .given }), toZ-ofZ (record { sfits = c .before .corner-of-arg2 .given }), toZ-ofZ (record { sfits = c .corner-of-arg3 .given }))
+read c = (
+  toZ-ofZ (record { sfits = c .before .before .corner-of-arg .given }),
+  toZ-ofZ (record { sfits = c .before .corner-of-arg2 .given }),
+  toZ-ofZ (record { sfits = c .corner-of-arg3 .given }),
+)
 
 mul-at : tie.Need-mul-at
 mul-at c = search needs

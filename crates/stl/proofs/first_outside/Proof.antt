@@ -27,7 +27,8 @@ unfolding firstOutside
 returns c =
     let l = c .before .before .before .loop in
     let a = c .before .before .before .before .before .args in
-    first-found (λ i. not (triangleWithin (now (a .vertices)) (now (a .triangles)) i)) (a .nt) (l .i) (omega arith) (l .inv .1) (sym (ap not (c .before .triangle-within .ensures)) ∙ c .if1 .taken)
+    first-found (λ i. not (triangleWithin (now (a .vertices)) (now (a .triangles)) i)) (a .nt) (l .i) (omega arith) (l .inv .1)
+    (sym (ap not (c .before .triangle-within .ensures)) ∙ c .if1 .taken)
 
 add-i : tie.Need-add-i Inv-loop μ-loop
 add-i c = omega arith

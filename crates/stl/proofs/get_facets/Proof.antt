@@ -1,4 +1,4 @@
--- `stl::get_facets` meets its contract. The loop's invariant: the integers of the facets passed are stored, and nothing else. Assumes nothing.
+-- `stl::get_facets` meets its contract. The loop's invariant: the integers of the facets passed are stored. Assumes nothing.
 use mathlib.Core.Path.{_≡_, refl, sym, ap, _∙_}
 use Prim.Native.Nat.{ℕ, _-_, _*_, _≤_}
 use native.Mathlib.Nat.{zero-add}
@@ -37,7 +37,8 @@ loop-again c =
     let a = at-get .before .before .before .before .before .args in (
       omega arith,
       at-get .get-nine .kept .1 .1 .0 ∙ l .inv .1,
-      at-get .get-nine .ensures ∙ rw (l .inv .2) (run-more (nineAt (now (a .bytes))) 9 (nine-long _) (now (a .out)) 0 _ (l .i) (sym (zero-add (9 * l .i)))),
+      at-get .get-nine .ensures
+          ∙ rw (l .inv .2) (run-more (nineAt (now (a .bytes))) 9 (nine-long _) (now (a .out)) 0 _ (l .i) (sym (zero-add (9 * l .i)))),
     )
 
 same-length : tie.Need-same-length Inv-loop μ-loop

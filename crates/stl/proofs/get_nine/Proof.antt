@@ -33,7 +33,10 @@ same-length c = search needs
 
 returns : tie.Need-returns
 unfolding nineAt stlFacet
-returns c = c .before .put-nine .ensures ∙ ap (λ (f : Facet). sets (now (c .before .before .before .before .before .args .out)) (9 * c .before .before .before .before .before .args .i) (facetWords f)) (c .before .before .before .get-facet .ensures)
+returns c =
+    let at-get = c .before .before .before in
+    let a = at-get .before .before .args in
+    c .before .put-nine .ensures ∙ ap (λ (f : Facet). sets (now (a .out)) (9 * a .i) (facetWords f)) (at-get .get-facet .ensures)
 
 pub get-nine-spec : {M : Type 1} → statement M
 get-nine-spec =

@@ -27,7 +27,8 @@ returns c =
     let first = second .before .before .before .before in
     let start = first .before .before .before .before in
     let a = start .args in
-    file-stored (a .nt) (now (a .vertices)) (now (a .triangles)) (now (a .bytes)) (start .pre .roomy) (first .put-header .ensures) (second .put-u32 .ensures) (third .put-triangles .ensures)
+    file-stored (a .nt) (now (a .vertices)) (now (a .triangles)) (now (a .bytes)) (start .pre .roomy)
+    (first .put-header .ensures) (second .put-u32 .ensures) (third .put-triangles .ensures)
 
 pub put-file-spec : {M : Type 1} → statement M
 put-file-spec =

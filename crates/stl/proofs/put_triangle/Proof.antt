@@ -22,7 +22,7 @@ cast-corner-at c = search needs
 corner-at-requires : tie.Need-corner-at-requires
 corner-at-requires c κs =
     let s = c .before .before .before in
-    (s .pre .0 .first, corners-within _ _ _ (s .pre .1) .0)
+    (s .pre .0 .named .first, corners-within _ _ _ (s .pre .0 .within) .0)
 
 add-corner-at : tie.Need-add-corner-at
 add-corner-at c = search needs
@@ -39,7 +39,7 @@ cast-corner-at-2 c = search needs
 corner-at-requires-2 : tie.Need-corner-at-requires-2
 corner-at-requires-2 c κs =
     let s = c .before .before .before .before .before in
-    (s .pre .0 .second, corners-within _ _ _ (s .pre .1) .1)
+    (s .pre .0 .named .second, corners-within _ _ _ (s .pre .0 .within) .1)
 
 add-corner-at-2 : tie.Need-add-corner-at-2
 add-corner-at-2 c = search needs
@@ -56,7 +56,7 @@ cast-corner-at-3 c = search needs
 corner-at-requires-3 : tie.Need-corner-at-requires-3
 corner-at-requires-3 c κs =
     let s = c .before .before .before .before .before .before .before in
-    (s .pre .0 .third, corners-within _ _ _ (s .pre .1) .2)
+    (s .pre .0 .named .third, corners-within _ _ _ (s .pre .0 .within) .2)
 
 mul-put-facet : tie.Need-mul-put-facet
 mul-put-facet c = search needs
@@ -70,8 +70,12 @@ put-facet-requires c κs =
     let second = third .before .before in
     let first = second .before .before in
     let s = first .before .before .before .before in
-    let w = corners-within _ _ _ (s .pre .1) in
-    (omega arith, rw (first .corner-at .ensures) (vertex-numbers _ _ (w .0)), rw (second .corner-at2 .ensures) (vertex-numbers _ _ (w .1)), rw (third .corner-at3 .ensures) (vertex-numbers _ _ (w .2)))
+    let w = corners-within _ _ _ (s .pre .0 .within) in (
+      omega arith,
+      rw (first .corner-at .ensures) (vertex-numbers _ _ (w .0)),
+      rw (second .corner-at2 .ensures) (vertex-numbers _ _ (w .1)),
+      rw (third .corner-at3 .ensures) (vertex-numbers _ _ (w .2)),
+    )
 
 same-length : tie.Need-same-length
 same-length c = search needs

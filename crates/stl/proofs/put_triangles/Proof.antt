@@ -1,4 +1,4 @@
--- `stl::put_triangles` meets its contract. The loop's invariant: the facets of the triangles passed are stored, and nothing else. Assumes nothing.
+-- `stl::put_triangles` meets its contract. The loop's invariant: the facets of the triangles passed are stored. Assumes nothing.
 use mathlib.Core.Path.{_≡_, refl, ap, _∙_}
 use Prim.Native.Nat.{ℕ, _-_, _≤_}
 use native.Mathlib.Omega.{arith}
@@ -12,7 +12,8 @@ use Rattle.stl.proofs.put_triangles.Statement.{statement}
 use Rattle.stl.proofs.put_triangles.Tie as tie
 
 abbrev Inv-loop : tie.InvT-loop
-Inv-loop nt vertices triangles bytes₀ i₀ bytes i = (i ≤ nt) × (length bytes ≡ length bytes₀) × (bytes ≡ sets bytes₀ 84 (each (triangleBytes vertices triangles) (range 0 i)))
+Inv-loop nt vertices triangles bytes₀ i₀ bytes i =
+    (i ≤ nt) × (length bytes ≡ length bytes₀) × (bytes ≡ sets bytes₀ 84 (each (triangleBytes vertices triangles) (range 0 i)))
 
 abbrev μ-loop : tie.MeasureT-loop
 μ-loop nt vertices triangles bytes₀ i₀ bytes i = nt - i
@@ -24,7 +25,7 @@ put-triangle-requires : tie.Need-put-triangle-requires Inv-loop μ-loop
 put-triangle-requires c κs =
     let p = c .before .before .before .before .before .pre in
     let i = c .before .before .loop .i in
-    (p .named i (omega arith), p .within i (omega arith), omega arith)
+    (record { named = p .named i (omega arith); within = p .within i (omega arith) }, omega arith)
 
 add-i : tie.Need-add-i Inv-loop μ-loop
 add-i c = omega arith
@@ -40,7 +41,8 @@ loop-again c =
       omega arith,
       at-put .put-triangle .kept .1 .1 .1 .0 ∙ l .inv .1,
       at-put .put-triangle .ensures
-          ∙ rw (l .inv .2) (run-more (triangleBytes (now (a .vertices)) (now (a .triangles))) 50 (bytes-long _ _) (now (a .bytes)) 84 _ (l .i) refl),
+          ∙ rw (l .inv .2)
+          (run-more (triangleBytes (now (a .vertices)) (now (a .triangles))) 50 (bytes-long _ _) (now (a .bytes)) 84 _ (l .i) refl),
     )
 
 same-length : tie.Need-same-length Inv-loop μ-loop
@@ -50,7 +52,8 @@ returns : tie.Need-returns Inv-loop μ-loop
 returns c =
     let a = c .before .before .before .before .args in
     let e : c .before .loop .i ≡ a .nt = omega arith in
-    c .before .loop .inv .2 ∙ ap (λ (k : ℕ). sets (now (a .bytes)) 84 (each (triangleBytes (now (a .vertices)) (now (a .triangles))) (range 0 k))) e
+    c .before .loop .inv .2
+    ∙ ap (λ (k : ℕ). sets (now (a .bytes)) 84 (each (triangleBytes (now (a .vertices)) (now (a .triangles))) (range 0 k))) e
 
 pub put-triangles-spec : {M : Type 1} → statement M
 put-triangles-spec =

@@ -39,8 +39,8 @@ returns-2 : tie.Need-returns-2
 returns-2 c =
     let counted = c .before .before .before in
     let passed = counted .before in
-    read-done _ (now (start passed .args .out)) _ (passed .before .before .readable .ensures) (passed .if1 .left) _ _ (counted .facet-count .ensures .0)
-    (c .before .get-facets .ensures)
+    read-done _ (now (start passed .args .out)) _ (passed .before .before .readable .ensures) (passed .if1 .left) _ _
+    (counted .facet-count .ensures .0) (c .before .get-facets .ensures)
 
 pub read-spec : {M : Type 1} → statement M
 read-spec =

@@ -26,7 +26,8 @@ long c = (le-leb 84 (length (now (start c .args .bytes))) (omega arith), eq-eqb 
 -- the tests by the numbers that were read
 tested : (c : tie.After-first-untaken)
     → let a = start (c .before) .args in
-    stlReadVerdict (now (a .bytes)) (a .room) ≡ judge (readTests (now (a .bytes)) (c .before .before .facet-count .result) (c .first-untaken .result) (a .room))
+    stlReadVerdict (now (a .bytes)) (a .room)
+    ≡ judge (readTests (now (a .bytes)) (c .before .before .facet-count .result) (c .first-untaken .result) (a .room))
 tested c = read-tests _ _ _ _ (c .before .before .facet-count .ensures .0) (c .first-untaken .ensures)
 
 returns : tie.Need-returns
@@ -51,25 +52,29 @@ returns-2 c =
 first-untaken-requires : tie.Need-first-untaken-requires
 first-untaken-requires c κs = search needs
 
+mul-words : tie.Need-mul-words
+mul-words c = search needs
+
 returns-3 : tie.Need-returns-3
 returns-3 c =
     let l = long (c .before .before) in
     sym (tested (c .before) ∙ rw (l .0, l .1, ne-eqb _ _ (c .if3 .taken)))
 
-mul-if4 : tie.Need-mul-if4
-mul-if4 c = search needs
-
 returns-4 : tie.Need-returns-4
 returns-4 c =
     let at-test = c .before .before in
     let l = long (at-test .before) in
-    sym (tested at-test ∙ rw (l .0, l .1, eq-eqb _ _ (c .before .if3 .left), lt-leb (9 * at-test .before .before .facet-count .result) (start (at-test .before) .args .room) (c .if4 .taken)))
+    let n = at-test .before .before .facet-count .result in
+    let few = lt-leb (9 * n) (start (at-test .before) .args .room) (c .if4 .taken) in
+    sym (tested at-test ∙ rw (l .0, l .1, eq-eqb _ _ (c .before .if3 .left), few))
 
 returns-5 : tie.Need-returns-5
 returns-5 c =
     let at-test = c .before .before in
     let l = long (at-test .before) in
-    sym (tested at-test ∙ rw (l .0, l .1, eq-eqb _ _ (c .before .if3 .left), le-leb (9 * at-test .before .before .facet-count .result) (start (at-test .before) .args .room) (c .if4 .left)))
+    let n = at-test .before .before .facet-count .result in
+    let fits = le-leb (9 * n) (start (at-test .before) .args .room) (c .if4 .left) in
+    sym (tested at-test ∙ rw (l .0, l .1, eq-eqb _ _ (c .before .if3 .left), fits))
 
 pub readable-spec : {M : Type 1} → statement M
 readable-spec =
@@ -81,7 +86,7 @@ readable-spec =
     add-if2
     returns-2
     first-untaken-requires
+    mul-words
     returns-3
-    mul-if4
     returns-4
     returns-5)

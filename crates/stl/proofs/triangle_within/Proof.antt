@@ -65,8 +65,9 @@ unfolding triangleWithin
 returns-3 c =
     let passed₂ = c .before .before in
     let passed₁ = passed₂ .before .before .before in
-    rw (passes (passed₁ .before .vertex-within .ensures) (passed₁ .if1 .left), passes (passed₂ .before .vertex-within2 .ensures) (passed₂ .if2 .left))
-    (c .vertex-within3 .ensures)
+    let first = passes (passed₁ .before .vertex-within .ensures) (passed₁ .if1 .left) in
+    let second = passes (passed₂ .before .vertex-within2 .ensures) (passed₂ .if2 .left) in
+    rw (first, second) (c .vertex-within3 .ensures)
 
 pub triangle-within-spec : {M : Type 1} → statement M
 triangle-within-spec =

@@ -10,7 +10,9 @@ use Rattle.stl.proofs.vertex_within.Statement.{statement}
 use Rattle.stl.proofs.vertex_within.Tie as tie
 
 -- each number as it was read
-first : (c : tie.After-in-bounds) → let a = c .before .before .args in c .in-bounds .result ≡ inBounds (numberOf (now (a .vertices)) (a .v) 1)
+first : (c : tie.After-in-bounds)
+    → let a = c .before .before .args in
+    c .in-bounds .result ≡ inBounds (numberOf (now (a .vertices)) (a .v) 1)
 first c = c .in-bounds .ensures ∙ ap inBounds (toZ-ofZ (record { sfits = c .before .in-bounds-arg .given }))
 
 second : (c : tie.After-in-bounds2)

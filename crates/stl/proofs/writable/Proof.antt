@@ -62,18 +62,18 @@ returns-2 c =
 first-outside-requires : tie.Need-first-outside-requires
 first-outside-requires c κs = all-named _ _ _ _ (taken (c .before .before)) (good c)
 
+mul-long : tie.Need-mul-long
+mul-long c = omega (arith, taken (c .before .before .before))
+
+add-long : tie.Need-add-long
+add-long c = omega (arith, taken (c .before .before .before))
+
 returns-3 : tie.Need-returns-3
 unfolding stlWriteVerdict
 returns-3 c =
     let passed = c .before .before in
     let outside = c .before .first-outside .ensures in
     rw (fitting (passed .before .before), eq-eqb _ _ (good passed), ne-eqb _ _ (λ e. c .if3 .taken (outside ∙ e))) (ap (verdict 25) outside)
-
-mul-if4 : tie.Need-mul-if4
-mul-if4 c = omega (arith, taken (c .before .before .before .before))
-
-add-if4 : tie.Need-add-if4
-add-if4 c = omega (arith, taken (c .before .before .before .before))
 
 returns-4 : tie.Need-returns-4
 unfolding stlWriteVerdict
@@ -106,8 +106,8 @@ writable-spec =
     first-bad-requires
     returns-2
     first-outside-requires
+    mul-long
+    add-long
     returns-3
-    mul-if4
-    add-if4
     returns-4
     returns-5)

@@ -23,7 +23,8 @@ writable-requires c κs = search needs
 returns : tie.Need-returns
 returns c =
     let a = c .before .before .before .before .before .args in
-    write-refused (a .nv) (a .nt) (now (a .vertices)) (now (a .triangles)) (now (a .bytes)) _ (c .before .before .writable .ensures) (c .if1 .taken)
+    write-refused (a .nv) (a .nt) (now (a .vertices)) (now (a .triangles)) (now (a .bytes)) _
+    (c .before .before .writable .ensures) (c .if1 .taken)
 
 put-file-requires : tie.Need-put-file-requires
 put-file-requires c κs = accepted (c .before)
@@ -41,8 +42,8 @@ returns-2 : tie.Need-returns-2
 returns-2 c =
     let passed = c .before .before .before .before in
     let a = start passed .args in
-    write-done (a .nv) (a .nt) (now (a .vertices)) (now (a .triangles)) (now (a .bytes)) _ (passed .before .before .writable .ensures) (passed .if1 .left)
-    _ (c .before .before .put-file .ensures)
+    write-done (a .nv) (a .nt) (now (a .vertices)) (now (a .triangles)) (now (a .bytes)) _
+    (passed .before .before .writable .ensures) (passed .if1 .left) _ (c .before .before .put-file .ensures)
 
 pub write-spec : {M : Type 1} → statement M
 write-spec =
