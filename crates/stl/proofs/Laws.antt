@@ -59,12 +59,12 @@ pub header-long : length header ≡ 80
 unfolding header
 header-long = refl
 
+parts-long : (nt : ℕ) (x y z : List ℕ) → length x ≡ 80 → length y ≡ 4 → length z ≡ 50 * nt → length (x ++ y ++ z) ≡ 84 + 50 * nt
+parts-long nt x y z ex ey ez = omega (arith, length-append (x ++ y) z, length-append x y)
+
 pub file-long : (nt : ℕ) (vs : List ℤ) (ts : List ℕ) → length (stlBytes nt vs ts) ≡ 84 + 50 * nt
 unfolding stlBytes
-file-long nt vs ts =
-    let e = each (triangleBytes vs ts) (range 0 nt) in
-    let n = run-length (triangleBytes vs ts) 50 (bytes-long vs ts) nt in
-    omega (arith, length-append (header ++ le 4 nt) e, length-append header (le 4 nt), header-long)
+file-long nt vs ts = parts-long nt header _ _ header-long refl (run-length (triangleBytes vs ts) 50 (bytes-long vs ts) nt)
 
 pub file-stored : (nt : ℕ) (vs : List ℤ) (ts l : List ℕ) {l₁ l₂ l₃ : List ℕ} → 84 + 50 * nt ≤ length l
     → l₁ ≡ sets l 0 header → l₂ ≡ sets l₁ 80 (le 4 nt) → l₃ ≡ sets l₂ 84 (each (triangleBytes vs ts) (range 0 nt))

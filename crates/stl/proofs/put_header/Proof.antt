@@ -32,7 +32,7 @@ loop-less c = omega arith
 loop-again : tie.Need-loop-again Inv-loop μ-loop
 loop-again c =
     let l = c .before .loop in
-    (omega arith, length-set (l .bytes) (l .i) 0 ∙ l .inv .1, rw (l .inv .2) (fill-more (l .i) 0 _ (omega arith)))
+    (omega arith, length-set (l .bytes) (l .i) _ ∙ l .inv .1, rw (l .inv .2) (fill-more (l .i) 0 _ (omega arith)))
 
 same-length : tie.Need-same-length Inv-loop μ-loop
 same-length c = c .before .loop .inv .1
