@@ -5,15 +5,16 @@ use mathlib.Core.List.{List}
 use Prim.Native.Nat.{ℕ, _+_, _*_, _≤_, _<_}
 use lib.IntN.{ℤ}
 use lib.ListN.{length, getD}
+use Rattle.paper.specs.Sheet.{recordLength}
 use Rattle.facets.specs.Facets.{facetStands}
 use Rattle.stl.specs.Stl.{triangleWithin, stlLength, stlCount, stlFacet}
 
 -- the records that triangle i names are there
 pub record Named (vs : List ℤ) (ts : List ℕ) (i : ℕ) : Type 0 where
   pub inside : 3 * i + 3 ≤ length ts
-  pub first : 4 * getD ts (3 * i) 0 + 4 ≤ length vs
-  pub second : 4 * getD ts (3 * i + 1) 0 + 4 ≤ length vs
-  pub third : 4 * getD ts (3 * i + 2) 0 + 4 ≤ length vs
+  pub first : recordLength * getD ts (3 * i) 0 + recordLength ≤ length vs
+  pub second : recordLength * getD ts (3 * i + 1) 0 + recordLength ≤ length vs
+  pub third : recordLength * getD ts (3 * i + 2) 0 + recordLength ≤ length vs
 
 -- and their coordinates are within
 pub record Ready (vs : List ℤ) (ts : List ℕ) (i : ℕ) : Type 0 where

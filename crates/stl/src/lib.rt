@@ -10,6 +10,7 @@ ghost use lib.ListN.{length};
 ghost use lib.Seq.{sets};
 ghost use Rattle.lists.specs.Lists.{range, each, over};
 ghost use Rattle.lists.specs.Bytes.{le};
+ghost use Rattle.paper.specs.Sheet.{recordLength};
 ghost use Rattle.facets.specs.Facets.{facetStands};
 ghost use Rattle.stl.specs.Stl.{vertexCorner, vertexWithin, triangleBytes, triangleWithin};
 ghost use Rattle.stl.specs.Stl.{header, stlLength, stlBytes, firstOutside, stlWriteVerdict, StlWrites};
@@ -28,7 +29,7 @@ pub struct Loaded {
 
 // The corner at vertex v.
 fn corner_at(vertices: &[i32], v: usize) -> Corner
-    requires { ⌜ (4 * v + 4 ≤ length (now vertices)) × (vertexWithin (now vertices) v ≡ true) ⌝ }
+    requires { ⌜ (recordLength * v + recordLength ≤ length (now vertices)) × (vertexWithin (now vertices) v ≡ true) ⌝ }
     ensures { λ r. ⌜ r ≡ vertexCorner (now (vertices .entry)) v ⌝ }
 {
     let at = 4 * v;
@@ -37,7 +38,7 @@ fn corner_at(vertices: &[i32], v: usize) -> Corner
 
 // Whether no coordinate of vertex v is outside 0 to 4,128,768.
 fn vertex_within(vertices: &[i32], v: usize) -> bool
-    requires { ⌜ 4 * v + 4 ≤ length (now vertices) ⌝ }
+    requires { ⌜ recordLength * v + recordLength ≤ length (now vertices) ⌝ }
     ensures { λ r. ⌜ r ≡ vertexWithin (now (vertices .entry)) v ⌝ }
 {
     let at = 4 * v;
