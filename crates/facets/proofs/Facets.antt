@@ -1,17 +1,16 @@
 -- The bytes of corners and facets: as they are stored one after another, and that corners come back from them. Assumes nothing.
-use mathlib.Core.Path.{_≡_, refl, sym, subst, ap, _∙_}
-use mathlib.Core.Bool.{Bool, true, not, _&&_}
+use mathlib.Core.Path.{_≡_, refl, ap, _∙_}
+use mathlib.Core.Bool.{Bool, true, _&&_}
 use mathlib.Core.List.{List, [], _∷_, _++_}
-use Prim.Native.Nat.{ℕ, _+_, _%_, _<_, _≤_}
+use Prim.Native.Nat.{ℕ, _+_, _≤_}
 use native.Mathlib.Nat.{add-assoc}
 use native.Mathlib.Omega.{arith}
-use borrow.Author.Tests.{le-ltb, lt-ltb}
 use lib.Dec.{T}
 use lib.IntN.{ℤ}
 use lib.ListN.{length, take, drop, length-append}
 use lib.Seq.{sets}
-use lib.Ieee.{Float, nan, inf, fin, binary32, fits, div, ofBits, ofFields, odd, toBits, isNan, nanBits}
-use lib.Ieee.Bits.{ofBits-toBits, toBits-lt, nanBits-is, nanBits-above}
+use lib.Ieee.{Float, binary32, fits, ofBits, toBits}
+use lib.Ieee.Bits.{ofBits-toBits, toBits-lt}
 use Rattle.lists.specs.Bytes.{le, unle, field}
 use Rattle.lists.proofs.Stores.{sets-next}
 use Rattle.codec.proofs.Bytes.{unle-le, field-part}

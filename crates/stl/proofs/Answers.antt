@@ -1,13 +1,13 @@
 -- The answers of a writer and a reader, from what their tests say. Assumes nothing.
 use mathlib.Core.Path.{_≡_, refl, sym, subst, ap, _∙_}
-use mathlib.Core.Bool.{true, not, _&&_}
+use mathlib.Core.Bool.{not, _&&_}
 use mathlib.Core.List.{List, [], _∷_}
 use Prim.Native.Nat.{ℕ, _+_, _*_, _/_, _<_}
 use native.Mathlib.Omega.{arith}
-use borrow.Author.Tests.{le-leb, leb-true, eq-eqb, eqb-true, ne-eqb, not-false, not-true}
+use borrow.Author.Tests.{le-leb, leb-true, eq-eqb, eqb-true, ne-eqb, not-false}
 use lib.Dec.{leb, eqb}
 use lib.IntN.{ℤ}
-use lib.ListN.{length, getD}
+use lib.ListN.{length}
 use lib.Seq.{sets}
 use Rattle.lists.specs.Lists.{range, each, first, over}
 use Rattle.lists.proofs.Firsts.{first-before, first-missing}
@@ -15,15 +15,15 @@ use Rattle.lists.proofs.Stores.{sets-front}
 use Rattle.paper.specs.declared.Verdict.{Verdict}
 use Rattle.paper.specs.Tests.{Test, test, testAt, judge, verdict}
 use Rattle.paper.specs.Build.{outputAfter}
-use Rattle.paper.specs.File.{firstBad, limits, countTest, indexTest}
-use Rattle.paper.proofs.Judged.{both, Numbered, Passed, judge-all, judge-none, passed-judge}
+use Rattle.paper.specs.File.{firstBad, limits}
+use Rattle.paper.proofs.Judged.{both, Numbered, Passed, judge-all, judge-none}
 use Rattle.layout.proofs.Passing.{index-below}
 use Rattle.sheetfile.specs.Taken.{Writable}
 use Rattle.sheetfile.proofs.Stored.{counted}
 use Rattle.facets.specs.Facets.{facetStands}
-use Rattle.stl.specs.Stl.{triangleWithin, stlLength, stlBytes, firstOutside, stlWriteVerdict, stlWrote, StlWrites}
+use Rattle.stl.specs.Stl.{triangleWithin, stlBytes, firstOutside, stlWriteVerdict, stlWrote, StlWrites}
 use Rattle.stl.specs.Stl.{stlCount, stlFacet, nineAt, stlWords, firstUntaken, stlReadVerdict, stlLoaded, StlReads}
-use Rattle.stl.specs.Within.{Named, AllNamed, AllWithin, Fine, AllStand, Sound}
+use Rattle.stl.specs.Within.{AllNamed, AllWithin, Fine, AllStand, Sound}
 use Rattle.stl.proofs.Laws.{run-length, nine-long}
 
 -- ── writing ──

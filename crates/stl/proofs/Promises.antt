@@ -8,21 +8,20 @@ use native.Mathlib.Omega.{arith}
 use lib.IntN.{ℤ, pos}
 use lib.ListN.{length, getD, take, drop}
 use lib.Seq.{take-append-seam}
-use lib.Ieee.{binary32, ofBits, toBits}
+use lib.Ieee.{Float, binary32, ofBits, toBits}
 use lib.Ieee.Bits.{toBits-ofBits, ofBits-toBits, ofBits-fits}
 use lib.Ieee.Exact.{HasValue}
 use Rattle.lists.specs.Lists.{range, each, over}
 use Rattle.paper.specs.declared.Wrote.{Wrote}
-use Rattle.paper.specs.declared.Verdict.{Verdict}
 use Rattle.paper.specs.Build.{outputAfter}
 use Rattle.facets.specs.declared.Corner.{Corner}
-use Rattle.facets.specs.Steps.{floatOf, scaled, isImage, natOf}
+use Rattle.facets.specs.Steps.{floatOf, inBounds, scaled, isImage, natOf}
 use Rattle.facets.specs.Facets.{cornerOf}
 use Rattle.facets.proofs.Floats.{exact, scaled-float}
 use Rattle.facets.proofs.Images.{float-fits, float-is-image, image-is-float, image-number, bounds-are}
 use Rattle.stl.specs.declared.Loaded.{Loaded}
 use Rattle.stl.specs.Stl.{numberOf, vertexCorner, vertexWithin, nineOf, stlBytes, stlWriteVerdict, stlWrote, StlWrites}
-use Rattle.stl.specs.Stl.{stlCount, stlFacet, stlWords, stlReadVerdict, stlLoaded, StlReads}
+use Rattle.stl.specs.Stl.{stlFacet, stlLoaded, StlReads}
 use Rattle.stl.specs.Within.{Fine}
 use Rattle.stl.proofs.Laws.{file-long, vertex-bounded, corners-within}
 use Rattle.stl.proofs.Answers.{fine, write-none, sound-verdict}
@@ -53,21 +52,26 @@ bits-taken b n h e =
 
 -- ── what was written ──
 
--- the three floats of a corner are exactly the coordinates of vertex v / 65,536
+-- a float is exactly an integer of the sheet / 65,536
+abbrev pub StandsFor : Float → ℤ → Type 0
+StandsFor f w = (n : ℕ) × (w ≡ pos n) × HasValue f false n 65536
+
+-- the three floats of a corner are exactly the coordinates of vertex v
 pub record Exactly (c : Corner) (vs : List ℤ) (v : ℕ) : Type 0 where
-  pub x : HasValue (c .x) false (natOf (numberOf vs v 1)) 65536
-  pub y : HasValue (c .y) false (natOf (numberOf vs v 2)) 65536
-  pub z : HasValue (c .z) false (natOf (numberOf vs v 3)) 65536
+  pub x : StandsFor (c .x) (numberOf vs v 1)
+  pub y : StandsFor (c .y) (numberOf vs v 2)
+  pub z : StandsFor (c .z) (numberOf vs v 3)
+
+word-exact : (w : ℤ) → inBounds w ≡ true → StandsFor (floatOf (natOf w)) w
+word-exact w e =
+    let b = bounds-are w e in
+    (natOf w, b .1, stands-for (natOf w) (b .0))
 
 vertex-exact : (vs : List ℤ) (v : ℕ) → vertexWithin vs v ≡ true → Exactly (vertexCorner vs v) vs v
 unfolding vertexCorner cornerOf
 vertex-exact vs v e =
     let b = vertex-bounded vs v e in
-    record {
-      x = stands-for _ (bounds-are _ (b .x-in) .0);
-      y = stands-for _ (bounds-are _ (b .y-in) .0);
-      z = stands-for _ (bounds-are _ (b .z-in) .0);
-    }
+    record { x = word-exact _ (b .x-in); y = word-exact _ (b .y-in); z = word-exact _ (b .z-in) }
 
 -- a reader's success with these integers, at the front of what it was lent
 pub record Returned (nt : ℕ) (words before : List ℤ) (g : Loaded) (after : List ℤ) : Type 0 where

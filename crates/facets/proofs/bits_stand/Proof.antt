@@ -5,7 +5,7 @@ use mir.Syntax.{w32}
 use mir.Val.{toZ}
 use mir.Facts.{toZ-pos}
 use lib.IntN.{pos}
-use lib.Ieee.{binary32, ofBits}
+use lib.Ieee.{binary32}
 use lib.Ieee.Bits.{ofBits-fits}
 use Rattle.facets.specs.Steps.{floatOf, natOf}
 use Rattle.facets.proofs.Floats.{float-number}

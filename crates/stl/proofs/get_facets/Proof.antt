@@ -5,7 +5,7 @@ use native.Mathlib.Nat.{zero-add}
 use native.Mathlib.Omega.{arith}
 use denote.Ref.{now}
 use lib.ListN.{length}
-use lib.Seq.{sets, length-sets}
+use lib.Seq.{sets}
 use Rattle.lists.specs.Lists.{range, each}
 use Rattle.stl.specs.Stl.{nineAt}
 use Rattle.stl.proofs.Laws.{run-more, nine-long}

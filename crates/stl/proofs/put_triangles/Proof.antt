@@ -4,7 +4,7 @@ use Prim.Native.Nat.{ℕ, _-_, _≤_}
 use native.Mathlib.Omega.{arith}
 use denote.Ref.{now}
 use lib.ListN.{length}
-use lib.Seq.{sets, length-sets}
+use lib.Seq.{sets}
 use Rattle.lists.specs.Lists.{range, each}
 use Rattle.stl.specs.Stl.{triangleBytes}
 use Rattle.stl.proofs.Laws.{run-more, bytes-long}
