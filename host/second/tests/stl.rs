@@ -1,9 +1,6 @@
 //! Worked values of document 02 (i), of the second STL writer and reader.
 
-#[path = "../src/stl.rs"]
-mod stl;
-
-use stl::{coordinate, float, read, write, Refused};
+use second::stl::{coordinate, float, read, write, Refused};
 
 /// The listing's sheet of document 01.
 const VERTICES: [i32; 12] = [0, 49_152, 0, 0, 1, 0, 49_152, 0, 2, 0, 0, 49_152];
