@@ -1,5 +1,5 @@
 //! Binary STL: random sheets and files, the library's answer and all lent memory held against the second writer and reader.
-//! A difference panics with the case.
+//! So are the plain C loops that the library is measured against. A difference panics with the case.
 
 use crate::cases::{case, content, Guarded};
 use crate::damage;
@@ -72,7 +72,7 @@ pub fn write(random: &mut Random) -> usize {
     });
     let length = room(random, 84 + 50 * nt.min(100_000));
     let mut bytes = Guarded::new(random, length, |r| r.bits() as u8);
-    let mut theirs = bytes.clone();
+    let (mut theirs, mut plain) = (bytes.clone(), bytes.clone());
     let answer = abi::stl_write(nv, nt, &vertices, &triangles, bytes.lend());
     let expected = match stl::write(nv, nt, &vertices, &triangles, length) {
         Ok(file) => {
@@ -83,6 +83,13 @@ pub fn write(random: &mut Random) -> usize {
     };
     assert_eq!(answer, expected, "{sheet:?} {nv} {nt} {length}");
     assert!(bytes == theirs, "memory differs after {answer:?}: {sheet:?} {nv} {nt} {length}");
+    let by_c = baseline::stl_write(nv, nt, &vertices, &triangles, plain.lend());
+    assert_eq!(
+        [by_c.number, by_c.place, by_c.count],
+        [answer.number, answer.place, answer.bytes],
+        "{sheet:?} {nv} {nt}"
+    );
+    assert!(plain == theirs, "stl.c leaves other memory: {sheet:?} {nv} {nt} {length}");
     answer.number
 }
 
@@ -149,7 +156,7 @@ pub fn read(random: &mut Random) -> usize {
     let file = file(random);
     let length = room(random, file.len().saturating_sub(84) / 50 * 9);
     let mut corners = Guarded::new(random, length, |r| r.bits() as i32);
-    let mut theirs = corners.clone();
+    let (mut theirs, mut plain) = (corners.clone(), corners.clone());
     let answer = abi::stl_read(&file, corners.lend());
     let expected = match stl::read(&file, length) {
         Ok(facets) => {
@@ -160,5 +167,8 @@ pub fn read(random: &mut Random) -> usize {
     };
     assert_eq!(answer, expected, "{file:?} {length}");
     assert!(corners == theirs, "memory differs after {answer:?}: {file:?} {length}");
+    let by_c = baseline::stl_read(&file, plain.lend());
+    assert_eq!([by_c.number, by_c.place, by_c.count], [answer.number, answer.place, answer.facets], "{file:?}");
+    assert!(plain == theirs, "stl.c leaves other memory: {file:?} {length}");
     answer.number
 }
