@@ -63,6 +63,6 @@ for sign in 1 -1; do
     malxuqeed from-raw "$name.raw" "$name.vol" --sizes 13,13,13 --type u8 --level 100 >/dev/null
     malxuqeed build "$name.vol" "$name.sheet" >/dev/null
     view "$name" "$([ $sign = 1 ] && echo - || echo +)"
-    [ "${flats:-0}" -gt 0 ] && [ "$closed" = closed ] || { echo "$name is no trial: it must be closed, with facets of no area" >&2; exit 1; }
+    [ "$closed" = closed ] && [ "${flats:-0}" -gt 0 ] || { echo "$name must be closed and have facets of no area" >&2; exit 1; }
 done
 echo 'admesh agrees on every sheet.'

@@ -62,6 +62,19 @@ fn streams_and_file_manners() {
 }
 
 #[test]
+fn a_full_disk_leaves_the_old_file() {
+    let folder = exported("stl-full");
+    let samples: Vec<i16> = (0..1000).map(|n| if n * 7 % 5 == 0 { 9 } else { -9 }).collect();
+    folder.put("v.vol", &volume([10, 10, 10], &samples));
+    assert_eq!(folder.run("build v.vol v.sheet").status, Some(0));
+    let (names, old) = (folder.names(), folder.get("l.stl"));
+    for stl in ["l.stl", "new.stl"] {
+        folder.shell(&format!("trap '' XFSZ; ulimit -f 1; \"$1\" stl v.sheet {stl}")).failed_with("there is no room");
+    }
+    assert_eq!((folder.names(), folder.get("l.stl")), (names, old));
+}
+
+#[test]
 fn a_refusal_of_writing_leaves_the_old_file() {
     let folder = exported("stl-refused");
     let sheet = folder.get("l.sheet");
