@@ -10,7 +10,7 @@ PROGRAMS = target/native/cargo/release
 LIBRARY = target/native/libcabi.a
 endif
 
-.PHONY: help tool install demo test host trials bench fuzz memory page
+.PHONY: help tool install demo test host trials bench fuzz memory page viewers
 
 help:
 	@sed -n 's/^## //p' Makefile
@@ -41,13 +41,17 @@ host:
 trials: host
 	sh host/cargo.sh test --workspace
 
-## make bench     the proved library beside a hand-written C mesher, and the audit of 10,000 sheets
+## make bench     the proved library beside a hand-written C mesher and C loops, and the audit of 10,000 sheets
 bench:
 	sh host/own.sh sh -c 'bench && sh host/audit-rate.sh'
 
 ## make page      an audit's page opened in a browser (Debian's chromium), as a picture
 page: tool
 	sh host/page.sh $(PROGRAMS)
+
+## make viewers   STL files as another program reads them (Debian's admesh)
+viewers: tool
+	sh host/viewers.sh $(PROGRAMS)
 
 ## make fuzz      random and mutated input, for ten minutes
 fuzz: host

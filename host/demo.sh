@@ -63,5 +63,11 @@ head -c 1000 $pore.sheet >cut.sheet
 show malxuqeed audit archive.txt --csv audit.csv --html audit.html
 begin 3 cut -d , -f 1-9 audit.csv
 say ""
-say "All files are in host/target/demo: look at $pore.png, sorted.png and audit.html." \
+say "5. For viewers. A sheet as binary STL, to open in a program of your own, and as integers again. Units are sample steps, and" \
+    "   facets face the air: a housing's outward, a pore's into the pore."
+show malxuqeed stl housing-2.sheet housing-2.stl
+show malxuqeed stl $pore.sheet $pore.stl
+begin 3 malxuqeed facets $pore.stl
+say ""
+say "All files are in host/target/demo: look at $pore.png, sorted.png and audit.html, and at housing-2.stl in a viewer." \
     "'malxuqeed help' tells what else there is, and docs/MANUAL.md how to go on with a scan of your own."

@@ -1,7 +1,7 @@
-/* malxuqeed.h: the proved mesher, writer, reader and checker of sheets, for C and C++.
+/* malxuqeed.h: the proved mesher, writer, reader and checker of sheets, and writer and reader of binary STL, for C and C++.
  *
  * Each function is proved to be safe on every input, to end, and to give exactly the answer and the refusal that document 01
- * says. Nothing is asked of a caller but this:
+ * says, and for STL document 02 (i). Nothing is asked of a caller but this:
  *
  *   - each pointer leads to as many elements as the length behind it says (0 elements need no place: any pointer will do);
  *   - NO SLICE OVERLAPS ANOTHER that the same call may write to (samples and bytes that are only read may be shared between
@@ -29,7 +29,7 @@ typedef struct { size_t nx, ny, nz; } malxuqeed_sizes;
 /* A cube of the lattice, by its lowest corner: each coordinate is below its axis minus 1. */
 typedef struct { size_t x, y, z; } malxuqeed_place;
 
-/* The numbers of document 01; malxuqeed_meaning says each in a sentence. */
+/* The numbers of documents 01 and 02; malxuqeed_meaning says each in a sentence. */
 typedef enum {
     MALXUQEED_OK = 0,
     MALXUQEED_AXIS = 1,
@@ -48,7 +48,8 @@ typedef enum {
     MALXUQEED_SIZES = 16,
     MALXUQEED_VERTEX = 17,
     MALXUQEED_TRIANGLE = 18,
-    MALXUQEED_ABSENT = 19
+    MALXUQEED_ABSENT = 19,
+    MALXUQEED_COORDINATE = 25
 } malxuqeed_number;
 
 static inline const char *malxuqeed_meaning(size_t number)
@@ -75,7 +76,20 @@ static inline const char *malxuqeed_meaning(size_t number)
     case MALXUQEED_TRIANGLE:
         return "a triangle of the sheet file is not on this surface, faces the wrong way, or comes twice";
     case MALXUQEED_ABSENT: return "a vertex or a triangle of this surface is missing from the sheet file";
-    default: return "a number that document 01 does not name";
+    case MALXUQEED_COORDINATE:
+        return "a triangle has a coordinate outside 0 to 4,128,768, or a facet a float that no such coordinate gives";
+    default: return "a number that no document names";
+    }
+}
+
+/* The same where an STL file is written or read. */
+static inline const char *malxuqeed_stl_meaning(size_t number)
+{
+    switch (number) {
+    case MALXUQEED_TRIANGLE_ROOM: return "the STL file has more facets than there is room for";
+    case MALXUQEED_COUNT: return "a count is larger than what was given, or than a sheet may have";
+    case MALXUQEED_LAYOUT: return "the length of the STL file is not what its facet count asks for";
+    default: return malxuqeed_meaning(number);
     }
 }
 
@@ -95,12 +109,17 @@ static inline size_t malxuqeed_vertices_room(malxuqeed_sizes s) { return 4 * 7 *
 static inline size_t malxuqeed_triangles_room(malxuqeed_sizes s) { return 3 * 12 * malxuqeed_cubes(s); }
 /* The length of a sheet file. */
 static inline size_t malxuqeed_file_bytes(size_t vertices, size_t triangles) { return 16 * vertices + 12 * triangles + 24; }
+/* The length of a binary STL file: with as much, 8 cannot come. */
+static inline size_t malxuqeed_stl_bytes(size_t triangles) { return 50 * triangles + 84; }
+/* Numbers for the corners of an STL file of so many bytes: with as much, 7 cannot come. */
+static inline size_t malxuqeed_corners_room(size_t bytes) { return bytes < 84 ? 0 : (bytes - 84) / 50 * 9; }
 
 /* Answers. A number of 0 is success. */
 typedef struct { size_t number, vertices, triangles, cubes; } malxuqeed_built;
 typedef struct { size_t number, place, bytes; } malxuqeed_wrote;
 typedef struct { size_t number, place, vertices, triangles; malxuqeed_sizes sizes; } malxuqeed_got;
 typedef struct { size_t number, place; } malxuqeed_verdict;
+typedef struct { size_t number, place, facets; } malxuqeed_loaded;
 
 /* Builds the sheet through a start cube: the named one, or, where named is false, the lowest that is crossed. Vertices are
  * records of four numbers (edge, x, y, z; coordinates in 1/65536 of a sample step), triangles three vertex numbers.
@@ -122,6 +141,19 @@ malxuqeed_got malxuqeed_read(const uint8_t *bytes, size_t bytes_len, int32_t *ve
 malxuqeed_verdict malxuqeed_check(malxuqeed_sizes sizes, bool named, malxuqeed_place start, const int16_t *samples,
     size_t samples_len, const uint8_t *bytes, size_t bytes_len, uint16_t *words, size_t words_len, uint32_t *waiting,
     size_t waiting_len, uint32_t *slots, size_t slots_len);
+
+/* Writes the triangles of a sheet as a binary STL file to the front of bytes: 80 bytes of 0, the count (u32), then 50 bytes a
+ * facet: a normal of 0, three corners of three f32, two bytes of 0. Floats are in sample steps, each exactly its coordinate
+ * divided by 65,536. STL's axes are right-handed, so the second and third corner trade places; facets then face the air.
+ * Tests 9, 15, 25, 8; the place is that of the first wrong triangle at 15 and 25, else 0. Answers how many bytes. A vertex that
+ * no triangle names may lie anywhere. */
+malxuqeed_wrote malxuqeed_stl_write(size_t nv, size_t nt, const int32_t *vertices, size_t vertices_len,
+    const uint32_t *triangles, size_t triangles_len, uint8_t *bytes, size_t bytes_len);
+
+/* Reads a binary STL file whose floats are those of coordinates 0 to 4,128,768: nine integers a facet, x, y, z of each corner
+ * in 1/65536 of a sample step, in the sheet's corner order. Header, normals and attributes are not looked at. Tests 14, 25, 7;
+ * the place is that of the first wrong facet at 25, else 0. Answers how many facets, 0 where it refuses. */
+malxuqeed_loaded malxuqeed_stl_read(const uint8_t *bytes, size_t bytes_len, int32_t *corners, size_t corners_len);
 
 #ifdef __cplusplus
 }

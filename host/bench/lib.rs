@@ -1,8 +1,9 @@
-//! The hand-written C mesher, `second.c`, over slices.
+//! What the proved library is measured against, over slices: the hand-written C mesher, `second.c`, and STL by plain C loops,
+//! `stl.c`.
 
 use std::sync::Once;
 
-/// The compiler and the level that `second.c` was compiled by.
+/// The compiler and the level that the C files were compiled by.
 pub const COMPILER: &str = env!("BASELINE_COMPILER");
 
 #[repr(C)]
@@ -33,6 +34,27 @@ extern "C" {
         triangles: *mut u32,
         triangle_count: usize,
     ) -> Answer;
+    #[rustfmt::skip]
+    fn plain_stl_write(
+        nv: usize,
+        nt: usize,
+        vertices: *const i32,
+        vertex_count: usize,
+        triangles: *const u32,
+        triangle_count: usize,
+        bytes: *mut u8,
+        byte_count: usize,
+    ) -> StlAnswer;
+    fn plain_stl_read(bytes: *const u8, byte_count: usize, corners: *mut i32, corner_count: usize) -> StlAnswer;
+}
+
+/// The refusal number, its place, and what was written: bytes, or facets.
+#[repr(C)]
+#[derive(Clone, Copy, Debug, PartialEq, Eq)]
+pub struct StlAnswer {
+    pub number: usize,
+    pub place: usize,
+    pub count: usize,
 }
 
 /// What is lent: outputs and work room.
@@ -61,4 +83,15 @@ pub fn build(sizes: [u16; 3], start: Option<[u16; 3]>, samples: &[i16], lent: Le
         )
     };
     [answer.number as usize, answer.vertices as usize, answer.triangles as usize, answer.cubes as usize]
+}
+
+pub fn stl_write(nv: usize, nt: usize, vertices: &[i32], triangles: &[u32], bytes: &mut [u8]) -> StlAnswer {
+    let (v, t, b) = (vertices.as_ptr(), triangles.as_ptr(), bytes.as_mut_ptr());
+    // SAFETY: each pointer comes with the length of its slice, and the slices are lent for the call alone.
+    unsafe { plain_stl_write(nv, nt, v, vertices.len(), t, triangles.len(), b, bytes.len()) }
+}
+
+pub fn stl_read(bytes: &[u8], corners: &mut [i32]) -> StlAnswer {
+    // SAFETY: as above.
+    unsafe { plain_stl_read(bytes.as_ptr(), bytes.len(), corners.as_mut_ptr(), corners.len()) }
 }

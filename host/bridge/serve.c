@@ -17,11 +17,14 @@ typedef struct { usize number, vertices, triangles, cubes; } built;
 typedef struct { usize number, place, bytes; } wrote;
 typedef struct { usize number, place, vertices, triangles; sizes sizes; } got;
 typedef struct { usize number, place; } verdict;
+typedef struct { usize number, place, facets; } loaded;
 
 extern built malxuqeed_build(sizes, _Bool, place, const i16 *, usize, i32 *, usize, u32 *, usize, u16 *, usize, u32 *, usize, u32 *, usize);
 extern wrote malxuqeed_write(sizes, usize, usize, const i32 *, usize, const u32 *, usize, u8 *, usize);
 extern got malxuqeed_read(const u8 *, usize, i32 *, usize, u32 *, usize);
 extern verdict malxuqeed_check(sizes, _Bool, place, const i16 *, usize, const u8 *, usize, u16 *, usize, u32 *, usize, u32 *, usize);
+extern wrote malxuqeed_stl_write(usize, usize, const i32 *, usize, const u32 *, usize, u8 *, usize);
+extern loaded malxuqeed_stl_read(const u8 *, usize, i32 *, usize);
 
 /* What compiled code calls of a C library. */
 void *memset(void *to, int value, usize n) { for (usize i = 0; i < n; i++) ((u8 *)to)[i] = (u8)value; return to; }
@@ -132,6 +135,16 @@ static void serve(const u64 *asked, u64 *answer)
     case 3: {
         verdict r = malxuqeed_check(z, asked[4] != 0, start, S(0, i16), S(1, u8), S(2, u16), S(3, u32), S(4, u32));
         answer[0] = r.number; answer[1] = r.place;
+        break;
+    }
+    case 4: {
+        wrote r = malxuqeed_stl_write(asked[1], asked[2], S(0, i32), S(1, u32), S(2, u8));
+        answer[0] = r.number; answer[1] = r.place; answer[2] = r.bytes;
+        break;
+    }
+    case 5: {
+        loaded r = malxuqeed_stl_read(S(0, u8), S(1, i32));
+        answer[0] = r.number; answer[1] = r.place; answer[2] = r.facets;
         break;
     }
     default: leave(1);

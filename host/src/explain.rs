@@ -6,7 +6,9 @@ use crate::files;
 use crate::numbers;
 use crate::room;
 use crate::sheet::Sheet;
+use crate::stl::{self, Corners};
 use crate::volume::{self, Volume};
+use std::fmt::Display;
 use std::path::Path;
 
 /// What was refused.
@@ -14,6 +16,7 @@ use std::path::Path;
 pub struct About<'a> {
     pub volume: Option<(&'a Path, &'a Volume)>,
     pub sheet: Option<(&'a Path, &'a [u8])>,
+    pub stl: Option<(&'a Path, &'a [u8])>,
     pub start: Option<Place>,
 }
 
@@ -44,7 +47,7 @@ fn trailer(bytes: &[u8]) -> Option<Trailer> {
 
 /// The refusal in full: number, what was found, what to do.
 pub fn sentence(verdict: Verdict, about: &About) -> String {
-    let remedy = numbers::number(verdict.number).map_or("", |row| row.remedy);
+    let remedy = numbers::number(verdict.number).map_or("", |row| row.words(about.stl.is_some()).remedy);
     format!("refused {}: {}. {remedy}", verdict.number, found(verdict, about)).trim_end().to_string()
 }
 
@@ -72,6 +75,7 @@ fn values(Verdict { number, place }: Verdict, about: &About) -> Option<String> {
             ))
         }
         5 => about.volume.map(|(path, volume)| not_crossed(path, volume, about.start)),
+        14 if about.stl.is_some() => about.stl.map(|(path, bytes)| stl_length(path, bytes)),
         15 => about.sheet.and_then(|(path, bytes)| stray(place, path, bytes)),
         11..=16 => about.sheet.and_then(|(path, bytes)| layout(number, path, bytes, about)),
         17 | 18 => about.sheet.and_then(|(path, bytes)| record(number, place, path, bytes)),
@@ -81,6 +85,7 @@ fn values(Verdict { number, place }: Verdict, about: &About) -> Option<String> {
             let what = numbers::meaning(19).replace("the sheet file", &shown(path));
             Some(format!("{what}, which holds {vertices} vertices and {triangles} triangles, all of them right"))
         }
+        25 => coordinates(place, about),
         _ => None,
     }
 }
@@ -178,4 +183,38 @@ fn record(number: usize, place: usize, path: &Path, bytes: &[u8]) -> Option<Stri
         }
     };
     Some(format!("{what}: {found}"))
+}
+
+/// Refusal 14 of an STL file: its length beside what it says.
+fn stl_length(path: &Path, bytes: &[u8]) -> String {
+    let (name, has) = (shown(path), bytes.len() as u64);
+    let Some(count) = stl::said_count(bytes) else {
+        return format!("{name} has {has} bytes, a binary STL file has {} at least", stl::HEAD);
+    };
+    let wanted = stl::length(count);
+    // of a file that is too long no more was read
+    let has = if has > wanted { "more".to_string() } else { has.to_string() };
+    format!("{name} says {count} facets, which makes {wanted} bytes; it has {has}")
+}
+
+/// Refusal 25: the corners of the facet, or of the sheet's triangle.
+fn coordinates(place: usize, about: &About) -> Option<String> {
+    let (what, path, corners) = match (about.stl, about.sheet) {
+        (Some((path, bytes)), _) => ("facet", path, corners_text(stl::floats(bytes, place)?)),
+        (None, Some((path, bytes))) => {
+            let sheet = Sheet::read(bytes).ok()?;
+            let triangle = sheet.corners().nth(place)?;
+            ("triangle", path, corners_text(stl::triangle(&sheet, triangle)))
+        }
+        (None, None) => return None,
+    };
+    let rule = match what {
+        "facet" => "not all of these are coordinates from 0 to 4128768, divided by 65536",
+        _ => "not all of these are from 0 to 4128768",
+    };
+    Some(format!("{what} {place} of {}, counted from 0, has corners {corners}; {rule}", shown(path)))
+}
+
+fn corners_text<T: Display>(corners: Corners<T>) -> String {
+    corners.map(|[x, y, z]| format!("({x} {y} {z})")).join(" ")
 }

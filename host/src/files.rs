@@ -3,6 +3,7 @@
 use crate::args::usage;
 use crate::failure::{shown, Failure};
 use crate::signals::parts;
+use crate::stl;
 use crate::streams::Streams;
 use std::fs::{self, File, Permissions};
 use std::io::{self, Read, Seek, SeekFrom, Write};
@@ -26,7 +27,11 @@ pub fn read_front(from: impl Read, most: u64) -> io::Result<Vec<u8>> {
 
 /// Reads all, where that is not longer than a limit.
 pub fn read_whole(from: impl Read, most: u64) -> io::Result<Vec<u8>> {
-    let bytes = read_front(from, most + 1)?;
+    at_most(read_front(from, most + 1)?, most)
+}
+
+/// Bytes that are not more than a limit.
+fn at_most(bytes: Vec<u8>, most: u64) -> io::Result<Vec<u8>> {
     if bytes.len() as u64 > most {
         return Err(io::Error::other(format!(
             "it is longer than the {most} bytes that such a file may have; look at the name"
@@ -65,6 +70,29 @@ pub fn read_named_sheet(path: &Path, streams: &mut Streams) -> io::Result<Vec<u8
         read_whole(&mut *streams.input, LONGEST_SHEET)
     } else {
         read_sheet(path)
+    }
+}
+
+/// The longest STL file that is read: of 20,000,000 facets, five times as many as a sheet can have.
+const LONGEST_STL: u64 = 84 + 50 * 20_000_000;
+
+/// Reads a binary STL file, or of one that is longer than its count asks for one byte too many: the library's answer is the
+/// same as for the whole.
+fn read_stl(mut from: impl Read) -> io::Result<Vec<u8>> {
+    let mut bytes = read_front(&mut from, stl::HEAD as u64)?;
+    if let Some(count) = stl::said_count(&bytes) {
+        let enough = (stl::length(count) + 1).min(LONGEST_STL + 1);
+        from.take(enough - stl::HEAD as u64).read_to_end(&mut bytes)?;
+    }
+    at_most(bytes, LONGEST_STL)
+}
+
+/// Reads a binary STL file, or one from standard input.
+pub fn read_named_stl(path: &Path, streams: &mut Streams) -> io::Result<Vec<u8>> {
+    if is_stream(path) {
+        read_stl(&mut *streams.input)
+    } else {
+        read_stl(File::open(path)?)
     }
 }
 

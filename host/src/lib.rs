@@ -18,6 +18,7 @@ pub mod refuse;
 pub mod room;
 pub mod sheet;
 pub mod signals;
+pub mod stl;
 pub mod streams;
 pub mod text;
 pub mod tool;

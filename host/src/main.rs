@@ -1,4 +1,4 @@
-//! `malxuqeed`: builds, checks, lists, shows, draws and audits sheets.
+//! `malxuqeed`: builds, checks, lists, shows, draws, exports and audits sheets.
 
 use host::signals;
 use host::streams::Streams;

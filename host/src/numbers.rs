@@ -10,10 +10,33 @@ pub struct Number {
     pub remedy: &'static str,
     /// What the place beside the number counts, where it counts something.
     pub place: Option<&'static str>,
+    /// What is said in its place of an STL file.
+    pub stl: Option<Words>,
+}
+
+/// A number's meaning and remedy.
+#[derive(Clone, Copy)]
+pub struct Words {
+    pub means: &'static str,
+    pub remedy: &'static str,
+}
+
+impl Number {
+    /// The same row, with other words for an STL file.
+    const fn of_stl(mut self, means: &'static str, remedy: &'static str) -> Number {
+        self.stl = Some(Words { means, remedy });
+        self
+    }
+
+    /// The words for a sheet file or a volume, or for an STL file.
+    pub fn words(&self, of_stl: bool) -> Words {
+        let usual = Words { means: self.means, remedy: self.remedy };
+        self.stl.filter(|_| of_stl).unwrap_or(usual)
+    }
 }
 
 const fn row(number: usize, name: &'static str, means: &'static str, remedy: &'static str) -> Number {
-    Number { number, name, means, remedy, place: None }
+    Number { number, name, means, remedy, place: None, stl: None }
 }
 
 const fn placed(
@@ -23,10 +46,14 @@ const fn placed(
     means: &'static str,
     remedy: &'static str,
 ) -> Number {
-    Number { number, name, means, remedy, place: Some(place) }
+    Number { number, name, means, remedy, place: Some(place), stl: None }
 }
 
-pub const NUMBERS: [Number; 17] = [
+/// 25, of a sheet that is written and of a file that is read.
+const NO_COORDINATE: &str =
+    "a triangle has a coordinate outside 0 to 4,128,768, or a facet a float that no such coordinate gives";
+
+pub const NUMBERS: [Number; 18] = [
     row(
         1,
         "AXIS",
@@ -62,12 +89,18 @@ pub const NUMBERS: [Number; 17] = [
          is wrong: air is above 0, solid is 0 and below.",
     ),
     row(6, "VERTEX_ROOM", "the sheet has more vertices than there is room for", "Lend room for as many vertices as the answer counts."),
-    row(7, "TRIANGLE_ROOM", "the sheet has more triangles than there is room for", "Lend room for as many triangles as the answer counts."),
-    row(8, "BYTES", "the lent bytes are too few for the file", "Lend 16 bytes a vertex, 12 a triangle and 24 more."),
+    row(7, "TRIANGLE_ROOM", "the sheet has more triangles than there is room for", "Lend room for as many triangles as the answer counts.")
+        .of_stl("the STL file has more facets than there is room for", "Lend nine numbers a facet, a facet for each 50 bytes."),
+    row(8, "BYTES", "the lent bytes are too few for the file", "Lend 16 bytes a vertex, 12 a triangle and 24 more.")
+        .of_stl("the lent bytes are too few for the file", "Lend 50 bytes a triangle and 84 more."),
     row(
         9,
         "COUNT",
         "a count is larger than what was given, or than a sheet file may hold",
+        "Give counts within the slices, at most 2,000,000 vertices and 4,000,000 triangles.",
+    )
+    .of_stl(
+        "a count is larger than what was given, or than a sheet may have",
         "Give counts within the slices, at most 2,000,000 vertices and 4,000,000 triangles.",
     ),
     row(
@@ -88,6 +121,11 @@ pub const NUMBERS: [Number; 17] = [
         "LAYOUT",
         "the counts, distances and length of the sheet file do not fit together",
         "The file was cut short, joined with another or damaged: fetch it again from the archive, or build it anew.",
+    )
+    .of_stl(
+        "the length of the STL file is not what its facet count asks for",
+        "It was cut short, something was added behind it, or it is no binary STL (one that is text begins with the word solid): \
+         export it again as binary STL.",
     ),
     placed(
         15,
@@ -128,6 +166,19 @@ pub const NUMBERS: [Number; 17] = [
         "Likely causes: the sheet was thinned, repaired or cut, or its writer stopped early. Do not use figures taken \
          from it; build the sheet anew.",
     ),
+    placed(
+        25,
+        "COORDINATE",
+        "triangle",
+        NO_COORDINATE,
+        "No vertex of a lattice lies there, so the sheet was moved or scaled, or it is damaged: check it against its volume, or \
+         build it anew.",
+    )
+    .of_stl(
+        NO_COORDINATE,
+        "Only what 'malxuqeed stl' can write is read back. Another program wrote the file, or moved, scaled, smoothed or \
+         repaired what is in it: take the file as it was exported.",
+    ),
 ];
 
 pub fn number(number: usize) -> Option<&'static Number> {
@@ -135,7 +186,7 @@ pub fn number(number: usize) -> Option<&'static Number> {
 }
 
 pub fn meaning(of: usize) -> &'static str {
-    number(of).map_or("a number that document 01 does not name", |row| row.means)
+    number(of).map_or("a number that no document names", |row| row.means)
 }
 
 #[cfg(test)]
@@ -143,13 +194,16 @@ mod tests {
     use super::*;
 
     #[test]
-    fn every_number_of_document_01_has_words() {
+    fn every_number_of_the_documents_has_words() {
         let numbers: Vec<usize> = NUMBERS.iter().map(|row| row.number).collect();
-        assert_eq!(numbers, (1..=19).filter(|number| ![10, 13].contains(number)).collect::<Vec<_>>());
+        let named = (1..=19).filter(|number| ![10, 13].contains(number)).chain([25]);
+        assert_eq!(numbers, named.collect::<Vec<_>>());
         for row in &NUMBERS {
-            assert!(!row.means.ends_with('.') && row.remedy.ends_with('.'), "{}", row.number);
+            for words in [row.words(false), row.words(true)] {
+                assert!(!words.means.ends_with('.') && words.remedy.ends_with('.'), "{}", row.number);
+            }
         }
         let placed: Vec<usize> = NUMBERS.iter().filter(|row| row.place.is_some()).map(|row| row.number).collect();
-        assert_eq!(placed, [15, 17, 18]);
+        assert_eq!(placed, [15, 17, 18, 25]);
     }
 }

@@ -1,6 +1,6 @@
 //! Every function of the library with every argument distinct, so that two in each other's place are noticed.
 
-use host::abi::{self, Built, Got, Lattice, Place, Sizes, Verdict, Work, Wrote};
+use host::abi::{self, Built, Got, Lattice, Loaded, Place, Sizes, Verdict, Work, Wrote};
 
 const SIZES: [usize; 3] = [2, 3, 4];
 const START: [usize; 3] = [0, 1, 2];
@@ -183,4 +183,46 @@ fn check() {
         shorten(&mut lent);
         assert_eq!(lent.check(lattice(&samples), &file).number, 3);
     }
+}
+
+/// Four vertices whose coordinates are all different, and more numbers behind; two triangles, and more behind.
+fn facets() -> (Vec<i32>, Vec<u32>) {
+    let mut vertices: Vec<i32> = (0..4).flat_map(|v| [-v, 10 + v, 2000 + v, 4_128_768 - v]).collect();
+    vertices.extend([-91, -92, -93]);
+    (vertices, vec![0, 1, 2, 3, 2, 0, 94, 95])
+}
+
+#[test]
+fn stl_write() {
+    let (vertices, triangles) = facets();
+    let file = second::stl::write(4, 2, &vertices, &triangles, 184).expect("a file");
+    let mut bytes = vec![0xaa; 191];
+    let mut write = |nv, nt, length| abi::stl_write(nv, nt, &vertices, &triangles, &mut bytes[..length]);
+    assert_eq!(write(5, 2, 184), Wrote { number: 9, place: 0, bytes: 0 });
+    assert_eq!(write(4, 3, 184), Wrote { number: 9, place: 0, bytes: 0 });
+    assert_eq!(write(3, 2, 184), Wrote { number: 15, place: 1, bytes: 0 });
+    assert_eq!(write(4, 2, 183), Wrote { number: 8, place: 0, bytes: 0 });
+    assert_eq!(write(4, 2, 191), Wrote { number: 0, place: 0, bytes: 184 });
+    assert_eq!(bytes[..184], file);
+    assert_eq!(bytes[184..], [0xaa; 7]);
+    let mut outside = vertices.clone();
+    outside[13] = -1;
+    let wrote = abi::stl_write(4, 2, &outside, &triangles, &mut bytes);
+    assert_eq!(wrote, Wrote { number: 25, place: 1, bytes: 0 });
+    assert_eq!(bytes[..184], file);
+}
+
+#[test]
+fn stl_read() {
+    let (vertices, triangles) = facets();
+    let file = second::stl::write(4, 2, &vertices, &triangles, 184).expect("a file");
+    let mut corners = vec![70; 23];
+    assert_eq!(abi::stl_read(&file, &mut corners), Loaded { number: 0, place: 0, facets: 2 });
+    let position = |v: &u32| vertices[4 * *v as usize + 1..][..3].to_vec();
+    assert_eq!(corners, [triangles[..6].iter().flat_map(position).collect(), vec![70; 5]].concat());
+    assert_eq!(abi::stl_read(&file, &mut corners[..17]), Loaded { number: 7, place: 0, facets: 0 });
+    assert_eq!(abi::stl_read(&file[..183], &mut corners), Loaded { number: 14, place: 0, facets: 0 });
+    let mut minus = file;
+    minus[84 + 50 + 12 + 3] ^= 0x80;
+    assert_eq!(abi::stl_read(&minus, &mut corners), Loaded { number: 25, place: 1, facets: 0 });
 }

@@ -53,8 +53,12 @@ fn the_manual_has_every_number_and_every_command() {
     for row in &host::numbers::NUMBERS {
         let line = format!("| {} | {} | {} |\n", row.number, row.means, row.remedy);
         assert!(manual.contains(&line), "{line}");
+        if let Some(words) = row.stl {
+            let line = format!("| {}, STL | {} | {} |\n", row.number, words.means, words.remedy);
+            assert!(manual.contains(&line), "{line}");
+        }
     }
-    for command in ["from-raw", "info", "build", "check", "audit", "picture", "list", "show"] {
+    for command in ["from-raw", "info", "build", "check", "audit", "picture", "stl", "facets", "list", "show"] {
         assert!(manual.contains(&format!("`{command}")), "{command}");
     }
     for column in host::audit::csv::COLUMNS.split(',') {

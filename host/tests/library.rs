@@ -69,6 +69,9 @@ fn the_header_says_what_the_tool_says() {
         assert!(flat.contains(&format!("MALXUQEED_{} = {}", row.name, row.number)), "{}", row.name);
         let case = format!("case MALXUQEED_{}: return \"{}\";", row.name, row.means);
         assert!(flat.contains(&case), "{case}");
+        let words = row.words(true);
+        let of_stl = format!("case MALXUQEED_{}: return \"{}\";", row.name, words.means);
+        assert!(words.means == row.means || flat.contains(&of_stl), "{of_stl}");
     }
     let count = header.lines().filter(|line| line.starts_with("    MALXUQEED_")).count();
     assert_eq!(count, 1 + host::numbers::NUMBERS.len());
@@ -83,7 +86,9 @@ fn the_header_s_room_is_the_tool_s() {
           malxuqeed_sizes all[] = {{2, 3, 4}, {64, 64, 64}, {1, 2, 2}, {2, 65, 2}};\n\
           for (int i = 0; i < 4; i++) printf(\"%zu %zu %zu %zu %zu\\n\", malxuqeed_words_room(all[i]),\n\
           malxuqeed_waiting_room(all[i]), malxuqeed_slots_room(all[i]), malxuqeed_vertices_room(all[i]),\n\
-          malxuqeed_triangles_room(all[i]));\nreturn 0; }\n",
+          malxuqeed_triangles_room(all[i]));\n\
+          printf(\"%zu %zu\\n\", malxuqeed_stl_bytes(3), malxuqeed_stl_bytes(0));\n\
+          for (size_t n = 83; n < 236; n += 51) printf(\"%zu\\n\", malxuqeed_corners_room(n));\nreturn 0; }\n",
     );
     let mut wanted = String::new();
     for [nx, ny, nz] in [[2, 3, 4], [64, 64, 64], [1, 2, 2], [2, 65, 2]] {
@@ -92,6 +97,7 @@ fn the_header_s_room_is_the_tool_s() {
         let (vertices, triangles) = (host::room::vertex_numbers(sizes), host::room::triangle_numbers(sizes));
         wanted += &format!("{cubes} {cubes} {} {vertices} {triangles}\n", 7 * samples);
     }
+    wanted += "234 84\n0\n9\n18\n";
     shell(&folder, "cc -std=c99 -Wall -Wextra -Wpedantic -Werror -I \"$1/include\" room.c -o room && ./room")
         .well(&wanted);
 }

@@ -1,4 +1,4 @@
-//! A second mesher, writer, reader and checker, written from document 01 alone.
+//! A second mesher, writer, reader and checker, written from document 01 alone, and the same of binary STL from document 02 (i).
 //!
 //! It works on coordinates, sets and maps. The proved code works on lent slices, edge slots and cube words;
 //! the two share no table and no trick, so that one can be held against the other. The tool does not use it.
@@ -11,6 +11,7 @@ mod file;
 mod lattice;
 mod list;
 mod sheet;
+pub mod stl;
 
 pub use build::{build, Built, Volume, Work};
 pub use check::{check, Verdict};

@@ -1,6 +1,6 @@
 //! The library linked into this program. All of the host's unsafe code stands here.
 
-use super::{Built, Got, Lattice, Place, Sizes, Verdict, Work, Wrote};
+use super::{Built, Got, Lattice, Loaded, Place, Sizes, Verdict, Work, Wrote};
 
 extern "C" {
     #[rustfmt::skip]
@@ -58,9 +58,22 @@ extern "C" {
         slots: *mut u32,
         slots_len: usize,
     ) -> Verdict;
+    #[rustfmt::skip]
+    fn malxuqeed_stl_write(
+        nv: usize,
+        nt: usize,
+        vertices: *const i32,
+        vertices_len: usize,
+        triangles: *const u32,
+        triangles_len: usize,
+        bytes: *mut u8,
+        bytes_len: usize,
+    ) -> Wrote;
+    #[rustfmt::skip]
+    fn malxuqeed_stl_read(bytes: *const u8, bytes_len: usize, corners: *mut i32, corners_len: usize) -> Loaded;
 }
 
-// SAFETY of the four calls: the functions have no conditions of their own; each pointer is that of a slice, passed
+// SAFETY of all calls: the functions have no conditions of their own; each pointer is that of a slice, passed
 // with the slice's length; and no two slices overlap, since Rust lends them apart.
 
 #[rustfmt::skip]
@@ -107,4 +120,19 @@ pub fn check(lattice: Lattice, bytes: &[u8], work: Work) -> Verdict {
             words.as_mut_ptr(), words.len(), waiting.as_mut_ptr(), waiting.len(), slots.as_mut_ptr(), slots.len(),
         )
     }
+}
+
+#[rustfmt::skip]
+pub fn stl_write(nv: usize, nt: usize, vertices: &[i32], triangles: &[u32], bytes: &mut [u8]) -> Wrote {
+    unsafe {
+        malxuqeed_stl_write(
+            nv, nt, vertices.as_ptr(), vertices.len(),
+            triangles.as_ptr(), triangles.len(), bytes.as_mut_ptr(), bytes.len(),
+        )
+    }
+}
+
+#[rustfmt::skip]
+pub fn stl_read(bytes: &[u8], corners: &mut [i32]) -> Loaded {
+    unsafe { malxuqeed_stl_read(bytes.as_ptr(), bytes.len(), corners.as_mut_ptr(), corners.len()) }
 }

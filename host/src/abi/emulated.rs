@@ -4,7 +4,7 @@
 //! The process (`bridge/serve.c`) puts guard bytes round every slice and says whether they and the slices that are
 //! only read are unchanged. Each thread has a process; it ends with the thread.
 
-use super::{Built, Got, Lattice, Sizes, Verdict, Work, Wrote};
+use super::{Built, Got, Lattice, Loaded, Sizes, Verdict, Work, Wrote};
 use std::cell::RefCell;
 use std::io::{self, Read, Write};
 use std::process::{exit, Child, ChildStdin, ChildStdout, Command, Stdio};
@@ -126,7 +126,7 @@ fn stop(why: &str) -> ! {
     exit(2)
 }
 
-/// One call of function 0 to 3: its numbers, its slices in the order of its parameters.
+/// One call of a function, by its number in the bridge: its numbers, its slices in the order of its parameters.
 fn call(asked: [usize; ASKED], slices: &mut [&mut dyn Lent]) -> [usize; ANSWERED] {
     thread_local!(static SERVER: RefCell<Option<Server>> = const { RefCell::new(None) });
     let answered = SERVER.with(|own| {
@@ -185,4 +185,14 @@ pub fn check(mut lattice: Lattice, mut bytes: &[u8], mut work: Work) -> Verdict 
         &mut [&mut lattice.samples, &mut bytes, &mut work.words, &mut work.waiting, &mut work.slots],
     );
     Verdict { number, place }
+}
+
+pub fn stl_write(nv: usize, nt: usize, mut vertices: &[i32], mut triangles: &[u32], mut bytes: &mut [u8]) -> Wrote {
+    let [number, place, bytes, ..] = call([4, nv, nt, 0, 0, 0, 0, 0], &mut [&mut vertices, &mut triangles, &mut bytes]);
+    Wrote { number, place, bytes }
+}
+
+pub fn stl_read(mut bytes: &[u8], mut corners: &mut [i32]) -> Loaded {
+    let [number, place, facets, ..] = call([5, 0, 0, 0, 0, 0, 0, 0], &mut [&mut bytes, &mut corners]);
+    Loaded { number, place, facets }
 }

@@ -1,4 +1,4 @@
-//! The boundary to the proved library: its four functions, over slices.
+//! The boundary to the proved library: its functions, over slices.
 //!
 //! The numbers and structs are those of the crate `cabi`; the library itself tests every argument, so these
 //! wrappers add nothing but the slices' lengths. A library compiled for this processor is called directly; one
@@ -70,6 +70,14 @@ pub struct Verdict {
     pub place: usize,
 }
 
+#[repr(C)]
+#[derive(Clone, Copy, Debug, Default, PartialEq, Eq)]
+pub struct Loaded {
+    pub number: usize,
+    pub place: usize,
+    pub facets: usize,
+}
+
 /// A lattice as a caller gives it: sizes, samples and perhaps a start cube. Nothing is assumed of them.
 #[derive(Clone, Copy, Debug)]
 pub struct Lattice<'a> {
@@ -100,4 +108,12 @@ pub fn read(bytes: &[u8], vertices: &mut [i32], triangles: &mut [u32]) -> Got {
 
 pub fn check(lattice: Lattice, bytes: &[u8], work: Work) -> Verdict {
     library::check(lattice, bytes, work)
+}
+
+pub fn stl_write(nv: usize, nt: usize, vertices: &[i32], triangles: &[u32], bytes: &mut [u8]) -> Wrote {
+    library::stl_write(nv, nt, vertices, triangles, bytes)
+}
+
+pub fn stl_read(bytes: &[u8], corners: &mut [i32]) -> Loaded {
+    library::stl_read(bytes, corners)
 }

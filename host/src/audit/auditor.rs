@@ -98,6 +98,7 @@ impl Auditor {
             volume: Some((&entry.volume, &loaded.volume)),
             sheet: Some((&entry.sheet, &bytes)),
             start: judged.start,
+            ..About::default()
         };
         let (outcome, why) = match (judged.verdict.number, judged.verdict.place) {
             (0, _) => (Outcome::Accepted, String::new()),

@@ -34,7 +34,7 @@ fn run(given: &Given, streams: &mut Streams) -> Result<Ended, Failure> {
     let start = given.start(&START)?.named();
     files::apart(&[from], &[to])?;
     let volume = Volume::read(from, streams)?;
-    let about = About { volume: Some((from, &volume)), sheet: None, start };
+    let about = About { volume: Some((from, &volume)), start, ..About::default() };
     let (built, sheet) = Sheet::build(&volume, start, &mut Room::default());
     if built.number != 0 {
         return refuse(built.number, &about, streams);

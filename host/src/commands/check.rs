@@ -44,7 +44,7 @@ fn run(given: &Given, streams: &mut Streams) -> Result<Ended, Failure> {
     }
     streams.flush()?;
     let start = if asked == Start::Unnamed { None } else { judged.start };
-    let about = About { volume: Some((from, &volume)), sheet: Some((sheet, &bytes)), start };
+    let about = About { volume: Some((from, &volume)), sheet: Some((sheet, &bytes)), start, ..About::default() };
     streams.say(&sentence(verdict, &about));
     Ok(Ended::Refused)
 }

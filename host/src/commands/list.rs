@@ -28,7 +28,7 @@ fn run(given: &Given, streams: &mut Streams) -> Result<Ended, Failure> {
     let volume = Volume::read(from, streams)?;
     let (built, sheet) = Sheet::build(&volume, start, &mut Room::default());
     if built.number != 0 {
-        return refuse(built.number, &About { volume: Some((from, &volume)), sheet: None, start }, streams);
+        return refuse(built.number, &About { volume: Some((from, &volume)), start, ..About::default() }, streams);
     }
     streams.print(format_args!("{} {} {}", built.vertices, built.triangles, built.cubes))?;
     lines::print(streams.output, &sheet.vertices, &sheet.triangles).map_err(Failure::output)?;

@@ -54,6 +54,9 @@ pub fn page() -> String {
     page += ".SH REFUSALS\n";
     for row in &NUMBERS {
         page += &format!(".TP\n.B {}\n{}. {}\n", row.number, plain(row.means), plain(row.remedy));
+        if let Some(words) = row.stl {
+            page += &format!("Of an STL file: {}. {}\n", plain(words.means), plain(words.remedy));
+        }
     }
     page
 }

@@ -4,6 +4,7 @@ pub mod audit;
 pub mod build;
 pub mod check;
 pub mod completion;
+pub mod facets;
 pub mod from_raw;
 pub mod help;
 pub mod info;
@@ -11,18 +12,21 @@ pub mod list;
 pub mod manual;
 pub mod picture;
 pub mod show;
+pub mod stl;
 pub mod version;
 
 use crate::command::Command;
 
 /// In the order of the help.
-pub static COMMANDS: [&Command; 12] = [
+pub static COMMANDS: [&Command; 14] = [
     &from_raw::COMMAND,
     &info::COMMAND,
     &build::COMMAND,
     &check::COMMAND,
     &audit::COMMAND,
     &picture::COMMAND,
+    &stl::COMMAND,
+    &facets::COMMAND,
     &list::COMMAND,
     &show::COMMAND,
     &help::COMMAND,

@@ -1,7 +1,7 @@
 //! The fuzz driver: random and mutated volumes, sheets and command lines, one round after another.
 
 use crate::random::Random;
-use crate::{hold, tooled};
+use crate::{hold, stl, tooled};
 use std::collections::BTreeMap;
 use std::fs::File;
 use std::os::unix::fs::FileExt;
@@ -33,13 +33,16 @@ pub type Counts = BTreeMap<(&'static str, usize), u64>;
 
 type Trial = (&'static str, fn(&mut Random) -> usize);
 
-const TRIALS: [Trial; 7] = [
+const TRIALS: [Trial; 10] = [
     ("build", hold::build),
     ("check", hold::check),
     ("tool", tooled::round),
     ("read", hold::read),
     ("check", hold::check),
     ("write", hold::write),
+    ("tool", tooled::round),
+    ("stl write", stl::write),
+    ("stl read", stl::read),
     ("tool", tooled::round),
 ];
 

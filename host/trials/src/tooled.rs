@@ -4,6 +4,7 @@
 use crate::cases::{case, content, sheet_counts, Case, Lent};
 use crate::damage;
 use crate::random::Random;
+use crate::stl;
 use host::args::{self, Given, Start as Asked};
 use host::command::{Command, START, START_OR_AUTO};
 use host::commands::help;
@@ -50,6 +51,7 @@ struct Manifest {
 
 const VOLUMES: [&str; 3] = ["v.raw", "w.raw", "x y.raw"];
 const SHEETS: [&str; 3] = ["s.sheet", "t.sheet", "old.sheet"];
+const STLS: [&str; 3] = ["s.stl", "t.stl", "old.sheet"];
 const OTHERS: [&str; 6] = ["missing", "folder", "folder/new", "missing/new", "v.raw/new", "new.sheet"];
 
 fn volume_name(random: &mut Random) -> &'static str {
@@ -65,6 +67,14 @@ fn sheet_name(random: &mut Random) -> &'static str {
         0 => random.pick(&OTHERS),
         1 => random.pick(&VOLUMES),
         _ => random.pick(&SHEETS),
+    }
+}
+
+fn stl_name(random: &mut Random) -> &'static str {
+    if random.once_in(8) {
+        sheet_name(random)
+    } else {
+        random.pick(&STLS)
     }
 }
 
@@ -87,6 +97,12 @@ fn manifest(random: &mut Random, start: Start) -> Manifest {
     manifest
 }
 
+/// The STL file of a sheet, or its refusal.
+fn exported(sheet: &second::Content) -> Result<Vec<u8>, second::stl::Refused> {
+    let (vertices, triangles) = (sheet.records.concat(), sheet.triangles.concat());
+    second::stl::write(sheet.records.len(), sheet.triangles.len(), &vertices, &triangles, usize::MAX)
+}
+
 /// Fills the folder anew.
 fn prepare(random: &mut Random, about: &Case) -> std::io::Result<Manifest> {
     for entry in fs::read_dir(".")? {
@@ -106,6 +122,8 @@ fn prepare(random: &mut Random, about: &Case) -> std::io::Result<Manifest> {
     fs::write("s.sheet", second::serialize(&sheet))?;
     fs::write("t.sheet", damage::file(random, &sheet))?;
     fs::write("old.sheet", b"an old file")?;
+    fs::write("s.stl", exported(&sheet).unwrap_or_default())?;
+    fs::write("t.stl", stl::file(random))?;
     let manifest = manifest(random, about.start);
     fs::write("m.txt", &manifest.text)?;
     Ok(manifest)
@@ -126,7 +144,7 @@ fn random_start_word(random: &mut Random, start: Start) -> String {
 
 /// A command line that means something, or a random row of words.
 fn words(random: &mut Random, start: Start) -> Vec<OsString> {
-    let mut words: Vec<OsString> = match random.below(9) {
+    let mut words: Vec<OsString> = match random.below(12) {
         0 => vec!["build".into(), volume_name(random).into(), sheet_name(random).into()],
         1 | 2 => vec!["check".into(), volume_name(random).into(), sheet_name(random).into()],
         3 => vec!["list".into(), volume_name(random).into()],
@@ -134,6 +152,8 @@ fn words(random: &mut Random, start: Start) -> Vec<OsString> {
         5 => vec!["audit".into(), "m.txt".into()],
         6 => vec!["info".into(), volume_name(random).into()],
         7 => return picture(random, start),
+        8 | 9 => vec!["stl".into(), sheet_name(random).into(), stl_name(random).into()],
+        10 => vec!["facets".into(), stl_name(random).into()],
         _ => return (0..random.below(6)).map(|_| any_word(random, start)).collect(),
     };
     if random.once_in(20) && words.len() > 1 {
@@ -167,7 +187,7 @@ fn picture(random: &mut Random, start: Start) -> Vec<OsString> {
 
 fn any_word(random: &mut Random, start: Start) -> OsString {
     match random.below(8) {
-        0 | 1 => random.pick(&["build", "check", "list", "show", "audit", "help", ""]).into(),
+        0 | 1 => random.pick(&["build", "check", "list", "show", "audit", "stl", "facets", "help", ""]).into(),
         2 => {
             random.pick(&["--help", "-h", "--", "--start", "--start=", "--start=0,0,0", "--x", "-v", "--force"]).into()
         }
@@ -273,14 +293,28 @@ fn bytes_of(path: &Path, input: &[u8]) -> std::io::Result<Vec<u8>> {
     }
 }
 
-fn expect_build(volume: &Path, sheet: &Path, start: Start, input: &[u8]) -> Expected {
-    if volume == sheet && volume != Path::new("-") {
+/// Whether what is read would be written over.
+fn clash(read: &Path, written: &Path) -> bool {
+    let stream = read == Path::new("-");
+    let same = matches!((read.canonicalize(), written.canonicalize()), (Ok(a), Ok(b)) if a == b);
+    !stream && (read == written || same)
+}
+
+/// A file that is written, and the answer.
+fn expect_written(path: &Path, bytes: Vec<u8>, answer: String) -> Expected {
+    if path == Path::new("-") {
+        return Expected { status: 0, output: Output::Any, written: None };
+    }
+    if !writable(path) {
         return expected(2, "");
     }
-    if let (Ok(a), Ok(b)) = (volume.canonicalize(), sheet.canonicalize()) {
-        if a == b {
-            return expected(2, "");
-        }
+    let written = Some((Path::new(".").join(path).into_os_string(), bytes));
+    Expected { status: 0, output: Output::Exact(answer), written }
+}
+
+fn expect_build(volume: &Path, sheet: &Path, start: Start, input: &[u8]) -> Expected {
+    if clash(volume, sheet) {
+        return expected(2, "");
     }
     let Ok(file) = bytes_of(volume, input) else { return expected(2, "") };
     let case = match parsed(&file, start) {
@@ -291,17 +325,33 @@ fn expect_build(volume: &Path, sheet: &Path, start: Start, input: &[u8]) -> Expe
     if counts.number != 0 {
         return expected(1, format!("refused {}\n", counts.number));
     }
-    if sheet == Path::new("-") {
-        return Expected { status: 0, output: Output::Any, written: None };
-    }
-    if !writable(sheet) {
+    let bytes = content(&case).map(|content| second::serialize(&content)).unwrap_or_default();
+    expect_written(sheet, bytes, format!("{} {} {}\n", counts.vertices, counts.triangles, counts.cubes))
+}
+
+fn expect_stl(sheet: &Path, to: &Path, input: &[u8]) -> Expected {
+    if clash(sheet, to) {
         return expected(2, "");
     }
-    let bytes = content(&case).map(|content| second::serialize(&content)).unwrap_or_default();
-    Expected {
-        status: 0,
-        output: Output::Exact(format!("{} {} {}\n", counts.vertices, counts.triangles, counts.cubes)),
-        written: Some((Path::new(".").join(sheet).into_os_string(), bytes)),
+    let Ok(file) = bytes_of(sheet, input) else { return expected(2, "") };
+    let content = match second::parse(&file) {
+        Ok(content) => content,
+        Err((number, place)) => return expected(1, format!("refused {number} {place}\n")),
+    };
+    match exported(&content) {
+        Ok(bytes) => expect_written(to, bytes, format!("{}\n", content.triangles.len())),
+        Err(refused) => expected(1, format!("refused {} {}\n", refused.number, refused.place)),
+    }
+}
+
+fn expect_facets(path: &Path, input: &[u8]) -> Expected {
+    let Ok(file) = bytes_of(path, input) else { return expected(2, "") };
+    match second::stl::read(&file, usize::MAX) {
+        Ok(facets) => {
+            let line = |nine: &[i32; 9]| format!("f {}\n", nine.map(|number| number.to_string()).join(" "));
+            expected(0, format!("{}\n{}", facets.len(), facets.iter().map(line).collect::<String>()))
+        }
+        Err(refused) => expected(1, format!("refused {} {}\n", refused.number, refused.place)),
     }
 }
 
@@ -404,6 +454,8 @@ fn expect(parsed: &Result<(&'static Command, Given), Failure>, input: &[u8], man
             }
         }
         "show" => expect_show(given.name(0), input),
+        "stl" => expect_stl(given.name(0), given.name(1), input),
+        "facets" => expect_facets(given.name(0), input),
         "audit" if given.name(0) == Path::new("m.txt") => expect_audit(manifest),
         "audit" if bytes_of(given.name(0), input).is_err() => expected(2, ""),
         "help" if given.maybe(0).is_none() => expected(0, help::tool()),
@@ -449,7 +501,8 @@ pub fn round(random: &mut Random) -> usize {
     let settled = !matches!(wanted.output, Output::Any);
     assert!(if settled { status == wanted.status } else { status <= 2 }, "{args:?} ended with {status}: {said}");
     // Most commands say something exactly when it is not well; an audit or a build may have something to say on the way.
-    let talks = matches!(&command, Ok((command, _)) if ["audit", "build", "info", "picture"].contains(&command.name));
+    let talks =
+        matches!(&command, Ok((command, _)) if ["audit", "build", "info", "picture", "stl"].contains(&command.name));
     assert!(talks || errors.is_empty() == (status == 0), "{args:?} ended with {status} and said {errors:?}");
     files.extend(wanted.written);
     assert!(files == snapshot_all(), "{args:?}: the folder is not as it should be");

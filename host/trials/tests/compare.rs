@@ -1,11 +1,12 @@
 //! The proved library held against the second mesher: answers, outputs, work room and guard words.
 
 use host::cubes::{Cubes, Piece};
+use host::sheet::Sheet;
 use host::volume::Volume;
 use std::collections::{BTreeMap, BTreeSet};
 use trials::cases::{self, Case, Lent};
 use trials::random::Random;
-use trials::{damage, hold, volumes};
+use trials::{damage, hold, stl, volumes};
 
 /// Runs so many cases and says that each of the numbers came up.
 fn hold(cases: u64, seed: u64, trial: fn(&mut Random) -> usize, numbers: &[usize]) {
@@ -35,6 +36,54 @@ fn read_4000() {
 #[test]
 fn write_4000() {
     hold(4000, 4_000_000, hold::write, &[0, 1, 8, 9, 15]);
+}
+
+#[test]
+fn stl_write_8000() {
+    hold(8000, 6_000_000, stl::write, &[0, 8, 9, 15, 25]);
+}
+
+#[test]
+fn stl_read_8000() {
+    hold(8000, 7_000_000, stl::read, &[0, 7, 14, 25]);
+}
+
+/// Every coordinate that a float is written for, in one file: nine to a facet, what is left over at 0.
+#[test]
+fn every_coordinate_to_stl_and_back() {
+    const COORDINATES: i32 = 4_128_769;
+    let facets = COORDINATES as usize / 9 + 1;
+    let all: Vec<i32> = (0..9 * facets as i32).map(|n| if n < COORDINATES { n } else { 0 }).collect();
+    let vertices: Vec<i32> =
+        all.chunks_exact(3).flat_map(|position| [-1, position[0], position[1], position[2]]).collect();
+    let triangles: Vec<u32> = (0..3 * facets as u32).collect();
+    let mut bytes = vec![9; 84 + 50 * facets];
+    let wrote = host::abi::stl_write(3 * facets, facets, &vertices, &triangles, &mut bytes);
+    assert_eq!((wrote.number, wrote.bytes), (0, bytes.len()));
+    let written = second::stl::write(3 * facets, facets, &vertices, &triangles, bytes.len());
+    assert!(Ok(&bytes) == written.as_ref(), "written bytes differ");
+    let mut back = vec![-1; all.len()];
+    let loaded = host::abi::stl_read(&bytes, &mut back);
+    assert_eq!((loaded.number, loaded.facets), (0, facets));
+    assert!(back == all, "what was read differs");
+}
+
+/// The facets of no area that the tool tells of are, in a sheet, those with two corners in one place.
+#[test]
+fn flat_facets_2000() {
+    let mut all = 0;
+    for seed in 0..2000 {
+        let case = cases::case(&mut Random::new(8_000_000 + seed));
+        let Some(content) = cases::content(&case) else { continue };
+        let (vertices, triangles) = (content.records.concat(), content.triangles.concat());
+        let sheet = Sheet { sizes: cases::sizes(case.sizes), vertices, triangles };
+        let position = |index: u32| &content.records[index as usize][1..];
+        let touch = |[a, b, c]: [u32; 3]| [(a, b), (b, c), (c, a)].iter().any(|(a, b)| position(*a) == position(*b));
+        let flats = content.triangles.iter().filter(|triangle| touch(**triangle)).count();
+        assert_eq!(host::stl::flats(&sheet), flats, "{case:?}");
+        all += flats;
+    }
+    assert!(all > 1000);
 }
 
 /// The surfaces that the tool tells of are those that the second mesher visits, by their lowest cubes.
@@ -138,4 +187,25 @@ fn the_limits_of_a_file() {
     let got = host::abi::read(&bytes[..80_000_024], &mut read_vertices, &mut read_triangles);
     assert_eq!((got.number, got.vertices, got.triangles, got.sizes), (0, 2_000_000, 4_000_000, sizes));
     assert!(read_vertices == vertices[..8_000_000] && read_triangles == triangles[..12_000_000]);
+}
+
+#[test]
+fn the_limits_of_stl() {
+    // counts at and above V's and T's limit in writing; in reading there is none
+    let (vertices, triangles) = (vec![-1; 4 * 2_000_001], vec![1_999_999; 3 * 4_000_001]);
+    let write = |nv, nt| {
+        let wrote = host::abi::stl_write(nv, nt, &vertices, &triangles, &mut []);
+        [wrote.number, wrote.place, wrote.bytes]
+    };
+    assert_eq!(write(2_000_001, 4_000_000), [9, 0, 0]);
+    assert_eq!(write(2_000_000, 4_000_001), [9, 0, 0]);
+    assert_eq!(write(1_999_999, 4_000_000), [15, 0, 0]);
+    assert_eq!(write(2_000_000, 4_000_000), [25, 0, 0]);
+    let count = 4_000_001;
+    let mut bytes = vec![0; 84 + 50 * count];
+    bytes[80..84].copy_from_slice(&(count as u32).to_le_bytes());
+    let mut corners = vec![1; 9 * count + 1];
+    let loaded = host::abi::stl_read(&bytes, &mut corners);
+    assert_eq!((loaded.number, loaded.facets), (0, count));
+    assert!(corners[..9 * count].iter().all(|number| *number == 0) && corners[9 * count] == 1);
 }

@@ -1,9 +1,12 @@
-//! `bench [REPEATS]`: the proved library beside the hand-written C mesher, on three 64x64x64 volumes.
+//! `bench [REPEATS]`: the proved library beside the hand-written C mesher and plain C loops for STL, on three 64x64x64 volumes.
 //!
 //! `make bench` builds it so that the library's code is this processor's (see own.sh).
 
+mod stl;
+
 use host::abi::{self, Work};
 use std::time::{Duration, Instant};
+use stl::Stl;
 use trials::cases::{sizes, Case};
 use trials::volumes;
 
@@ -80,6 +83,10 @@ impl Buffers {
     }
 }
 
+fn ms(time: Duration) -> f64 {
+    time.as_secs_f64() * 1e3
+}
+
 fn time<T>(least: &mut Duration, call: impl FnOnce() -> T) {
     let began = Instant::now();
     let _ = std::hint::black_box(call());
@@ -142,16 +149,21 @@ fn main() -> std::process::ExitCode {
         };
         let longest = Duration::MAX;
         let times = Times { c: longest, build: longest, write: longest, read: longest, check: longest };
-        rows.push((name, case, counts, times));
+        let mut stl = Stl::new(&buffers.vertices[..4 * counts.0], &buffers.triangles[..3 * counts.1]);
+        if !stl.agree() {
+            eprintln!("{name}: the library and stl.c do not agree");
+            return std::process::ExitCode::FAILURE;
+        }
+        rows.push((name, case, counts, times, stl));
     }
     for _ in 0..repeats {
-        for (_, case, counts, times) in &mut rows {
+        for (_, case, counts, times, stl) in &mut rows {
             measure(&mut buffers, case, *counts, times);
+            stl.measure();
         }
     }
-    let ms = |d: Duration| d.as_secs_f64() * 1e3;
     println!("\nbuild   triangles  second.c ms  library ms  library/second.c  Mtri/s second.c  Mtri/s library");
-    for (name, _, (_, nt, _), times) in &rows {
+    for (name, _, (_, nt, _), times, _) in &rows {
         let rate = |d: Duration| *nt as f64 / d.as_secs_f64() / 1e6;
         let ratio = ms(times.build) / ms(times.c);
         let (c, build) = (ms(times.c), ms(times.build));
@@ -159,10 +171,12 @@ fn main() -> std::process::ExitCode {
         println!("{name:6} {nt:10}  {c:11.3}  {build:10.3}  {ratio:16.2}  {c_rate:15.1}  {rate:14.1}");
     }
     println!("\nlibrary  write/build  read/build  check/build    write ms     read ms    check ms");
-    for (name, _, _, times) in &rows {
+    for (name, _, _, times, _) in &rows {
         let [write, read, check] = [times.write, times.read, times.check].map(ms);
         let [by_write, by_read, by_check] = [write, read, check].map(|time| time / ms(times.build));
         println!("{name:7}  {by_write:11.2}  {by_read:10.2}  {by_check:11.2}  {write:10.3}  {read:10.3}  {check:10.3}");
     }
+    println!("{}", stl::HEADER);
+    rows.iter().for_each(|(name, _, _, _, stl)| println!("{}", stl.row(name)));
     std::process::ExitCode::SUCCESS
 }
