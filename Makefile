@@ -10,7 +10,7 @@ PROGRAMS = target/native/cargo/release
 LIBRARY = target/native/libcabi.a
 endif
 
-.PHONY: help tool install demo test host trials bench fuzz memory page viewers
+.PHONY: help tool install demo test host trials bench fuzz memory page mutants viewers
 
 help:
 	@sed -n 's/^## //p' Makefile
@@ -61,3 +61,9 @@ fuzz: host
 memory:
 	command -v valgrind >/dev/null || { apt-get update -qq && apt-get install -y -qq valgrind; }
 	sh host/own.sh valgrind -q --error-exitcode=9 fuzz 20000
+
+## make mutants   250 single changes of the definitions; those that nothing refuses are listed
+mutants:
+	rt check
+	command -v python3 >/dev/null || { apt-get update -qq && apt-get install -y -qq python3; }
+	python3 tools/mutants.py --most 250

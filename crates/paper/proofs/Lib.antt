@@ -1,5 +1,7 @@
 -- Laws of the definitions.
+pub mod Cases
 pub mod Worked
+pub mod Pins
 pub mod Ints
 pub mod Numbers
 pub mod Tables
@@ -14,3 +16,4 @@ pub mod Steps
 pub mod Judged
 pub mod Tested
 pub mod Passing
+pub mod Agreement

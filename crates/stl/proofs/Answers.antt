@@ -14,7 +14,7 @@ use Rattle.lists.proofs.Firsts.{first-before, first-missing}
 use Rattle.lists.proofs.Stores.{sets-front}
 use Rattle.paper.specs.declared.Verdict.{Verdict}
 use Rattle.paper.specs.Tests.{Test, test, testAt, judge, verdict}
-use Rattle.paper.specs.Build.{outputAfter}
+use Rattle.paper.specs.Room.{outputAfter}
 use Rattle.paper.specs.File.{firstBad, limits}
 use Rattle.paper.proofs.Judged.{both, Numbered, Passed, judge-all, judge-none}
 use Rattle.layout.proofs.Passing.{index-below}

@@ -11,9 +11,9 @@ use lib.Seq.{take-append-seam}
 use lib.Ieee.{Float, binary32, ofBits, toBits}
 use lib.Ieee.Bits.{toBits-ofBits, ofBits-toBits, ofBits-fits}
 use lib.Ieee.Exact.{HasValue}
+use Rattle.paper.specs.Room.{outputAfter}
 use Rattle.lists.specs.Lists.{range, each, over}
 use Rattle.paper.specs.declared.Wrote.{Wrote}
-use Rattle.paper.specs.Build.{outputAfter}
 use Rattle.facets.specs.declared.Corner.{Corner}
 use Rattle.facets.specs.Steps.{floatOf, inBounds, scaled, isImage, natOf}
 use Rattle.facets.specs.Facets.{cornerOf}

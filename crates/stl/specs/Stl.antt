@@ -12,7 +12,7 @@ use Rattle.paper.specs.declared.Verdict.{Verdict}
 use Rattle.paper.specs.declared.Wrote.{Wrote}
 use Rattle.paper.specs.Sheet.{recordLength}
 use Rattle.paper.specs.Tests.{test, testAt, judge}
-use Rattle.paper.specs.Build.{outputAfter}
+use Rattle.paper.specs.Room.{outputAfter}
 use Rattle.paper.specs.File.{countTest, indexTest}
 use Rattle.facets.specs.declared.Corner.{Corner}
 use Rattle.facets.specs.declared.Facet.{Facet}
