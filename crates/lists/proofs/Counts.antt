@@ -7,12 +7,12 @@ use native.Mathlib.Omega.{arith}
 use native.Mathlib.Decide.{ℕ-discrete, decLt}
 use lib.Dec.{T, eqb, eqb→eq, eqb-refl}
 use lib.ListN.{length, getD, length-append}
-use Rattle.lists.specs.Lists.{range, consIf, keep, count, any, each}
+use Rattle.lists.specs.Lists.{range, consIf, keep, count, any, all, each}
 use Rattle.lists.proofs.Member.{eq→T, range-in}
 use Rattle.lists.proofs.Rising.{Rising}
 use Rattle.lists.proofs.Runs.{keep-append, rising-ge, along-list}
 use Rattle.lists.proofs.Closure.{bool-same}
-use Rattle.lists.proofs.Within.{T→false, eqb-of, member-any, any-member, list-in, present, none-missing, below, in-run, map-in}
+use Rattle.lists.proofs.Within.{T→false, eqb-of, member-any, any-member, list-in, all-in, in-all-test, below, in-run, map-in}
 
 -- ── sums ──
 
@@ -274,11 +274,11 @@ module _ {A B : Type 0} (rel : A → B → Bool) (l : List A) (us : List B) (one
   abbrev met : B → Bool
   met u = any (λ a. rel a u) l
 
-  pub matched : eqb (length l) (length us) ≡ not (any (λ u. not (met u)) us)
+  pub matched : eqb (length l) (length us) ≡ all met us
   matched =
-      bool-same (eqb (length l) (length us)) (not (any (λ u. not (met u)) us))
+      bool-same (eqb (length l) (length us)) (all met us)
       (λ t.
-      none-missing met us
+      in-all-test met us
       (λ u i.
       let c = sum-full (λ u. count (λ a. rel a u) l) once (sym both-ways ∙ eqb→eq (length l) (length us) t) i in
       let v = pick (λ a. rel a u) l (λ q. omega arith) in
@@ -288,5 +288,5 @@ module _ {A B : Type 0} (rel : A → B → Bool) (l : List A) (us : List B) (one
       (both-ways
       ∙ sum-ones (λ u. count (λ a. rel a u) l) us
       (λ u i.
-      let v = any-member (λ a. rel a u) l (present met t i) in
+      let v = any-member (λ a. rel a u) l (all-in met t i) in
       omega (arith, once u i, count-some (λ a. rel a u) (v .1) (v .2)))))

@@ -41,6 +41,10 @@ module _ {A : Type 0} where
   all-in p {l = x ∷ l} t (here e) = subst (λ (k : A). T (p k)) (sym e) (and-left (p x) (all p l) t)
   all-in p {l = x ∷ l} t (there i) = all-in p (and-right (p x) (all p l) t) i
 
+  pub in-all-test : (p : A → Bool) (l : List A) → ((a : A) → In a l → T (p a)) → T (all p l)
+  in-all-test p [] f = tt
+  in-all-test p (x ∷ l) f = and-both (p x) (all p l) (f x (here refl)) (in-all-test p l (λ a i. f a (there i)))
+
   -- what holds of each member
   pub members : {P : A → Type 0} (l : List A) → ((a : A) → In a l → P a) → All P l
   members [] h = tt
@@ -83,19 +87,6 @@ module _ {A : Type 0} where
   pub any-agree : (p q : A → Bool) (l : List A) → ((a : A) → In a l → p a ≡ q a) → any p l ≡ any q l
   any-agree p q [] f = refl
   any-agree p q (x ∷ l) f = λ i. f x (here refl) i || any-agree p q l (λ a j. f a (there j)) i
-
-  -- none is missing, and back
-  pub present : (p : A → Bool) {l : List A} {a : A} → T (not (any (λ x. not (p x)) l)) → In a l → T (p a)
-  present p {l} {a} t i = go (p a) refl
-    where
-      go : (b : Bool) → p a ≡ b → T b
-      go true e = tt
-      go false e = T-not (any (λ x. not (p x)) l) t (member-any (λ x. not (p x)) i (subst (λ (b : Bool). T (not b)) (sym e) tt))
-
-  pub none-missing : (p : A → Bool) (l : List A) → ((a : A) → In a l → T (p a)) → T (not (any (λ x. not (p x)) l))
-  none-missing p l h =
-      not-T (any (λ x. not (p x)) l)
-      (λ t. let w = any-member (λ x. not (p x)) l t in T-not (p (w .0)) (w .2) (h (w .0) (w .1)))
 
 pub list-in : {k : ℕ} {l : List ℕ} → In k l → T (isIn l k)
 list-in {k} i = member-any (eqb k) i (eqb-refl k)

@@ -1,7 +1,7 @@
 -- Where the ends of two known edges stand: in an unshared face, or in an outer face, just where their reverse is missing. Assumes nothing.
 use mathlib.Core.Path.{_≡_, refl, sym, ap, _∙_, subst}
 use mathlib.Core.Bool.{Bool, true, false, not, cond, _&&_, _||_, or-false, and-true}
-use mathlib.Core.List.{List, [], _∷_, _++_, map, List·Memᴰ as In, List·Memᴰ·head as here, List·Memᴰ·tail as there, Memᴰ·map as in-map, map-append}
+use mathlib.Core.List.{List, [], _∷_, _++_, map, List·Memᴰ as In, Memᴰ·map as in-map, map-append}
 use mathlib.Core.Logic.{inl, inr}
 use Prim.Native.Nat.{ℕ, _+_, _-_, _/_, _%_, _<_, min}
 use native.Mathlib.Omega.{arith}
@@ -19,7 +19,7 @@ use Rattle.paper.specs.Tables.{ends, kinds}
 use Rattle.paper.proofs.Visits.{in-lattice, lattice-in}
 use Rattle.pairing.specs.Pairing.{edgeEnds, inOuterFace, outer}
 use Rattle.pairing.specs.Visitable.{meet, shared, inUnshared, unshared}
-use Rattle.lists.proofs.Within.{T→false, eqb-of, any-member, all-in, all-map}
+use Rattle.lists.proofs.Within.{T→false, eqb-of, any-member, all-in, in-all-test, all-map}
 use Rattle.pairing.proofs.Table.{span, flat, flatX, flatY, flatZ}
 use Rattle.pairing.proofs.Edges.{number, Edge, kind-of, anchor-of}
 use Rattle.pairing.proofs.Sides.{Known}
@@ -27,11 +27,6 @@ use Rattle.pairing.proofs.Whole.{lone, Near, along, off, shared-after, 
 
 abbrev add : Place → Place → Place
 add m q = place (m .x + q .x) (m .y + q .y) (m .z + q .z)
-
-module _ {A : Type 0} where
-  all-from : (p : A → Bool) (l : List A) → ((a : A) → In a l → T (p a)) → T (all p l)
-  all-from p [] f = tt
-  all-from p (x ∷ l) f = and-both (p x) (all p l) (f x (here refl)) (all-from p l (λ a i. f a (there i)))
 
 -- places moved by m stand at v on an axis just where m does and they did not leave it
 level : (g : Place → ℕ) (m : Place) → ((q : Place) → g (add m q) ≡ g m + g q) → (v : ℕ) (ps : List Place) → T (any (λ q. eqb (g q) 0) ps)
@@ -47,13 +42,13 @@ level g m h v ps t = bool-same (all (λ p. eqb (g p) v) (map (add m) ps)) (all (
         let e : g (o .0) ≡ 0 = eqb→eq (g (o .0)) 0 (o .2) in
         let b : g m + g (o .0) ≡ v = at s (o .0) (o .1) in
         let a : g m ≡ v = omega arith in
-        and-both (all (λ q. eqb (g q) 0) ps) (eqb (g m) v) (all-from (λ q. eqb (g q) 0) ps (λ q i. eqb-of {a = g q} {b = 0} (omega (arith, at s q i)))) (eqb-of a)
+        and-both (all (λ q. eqb (g q) 0) ps) (eqb (g m) v) (in-all-test (λ q. eqb (g q) 0) ps (λ q i. eqb-of {a = g q} {b = 0} (omega (arith, at s q i)))) (eqb-of a)
 
     from : T (all (λ q. eqb (g q) 0) ps && eqb (g m) v) → T (all (λ p. eqb (g p) v) (map (add m) ps))
     from s =
         let a : g m ≡ v = eqb→eq (g m) v (and-right (all (λ q. eqb (g q) 0) ps) (eqb (g m) v) s) in
         subst T (sym (all-map (λ p. eqb (g p) v) (add m) ps))
-        (all-from (λ q. eqb (g (add m q)) v) ps
+        (in-all-test (λ q. eqb (g (add m q)) v) ps
         (λ q i.
         let e : g q ≡ 0 = eqb→eq (g q) 0 (all-in (λ q. eqb (g q) 0) (and-left (all (λ q. eqb (g q) 0) ps) (eqb (g m) v) s) i) in
         eqb-of {a = g (add m q)} {b = v} (h q ∙ omega arith)))

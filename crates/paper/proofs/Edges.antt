@@ -13,14 +13,10 @@ use Rattle.paper.specs.declared.Sizes.{Sizes}
 use Rattle.paper.specs.declared.Place.{Place}
 use Rattle.paper.specs.Lattice.{Lattice, place, samples, sampleNo, sampleAt, airAt, corner, cubes, cubeAt}
 use Rattle.paper.specs.Tables.{Ends, Tet, Tri, ends, kinds, low, kindOf}
-use Rattle.paper.specs.Sheet.{edgeNo, split, cubeEdges, recordAt, vertexRecord, tetEdge, triEdges, cubeTriangles}
+use Rattle.paper.specs.Sheet.{edgeNumbers, edgeNo, anchorOf, kindIn, endsOf, firstEnd, secondEnd, split, cubeEdges, recordAt, vertexRecord, tetEdge, triEdges, cubeTriangles}
 use Rattle.paper.specs.Within.{Sized, SampleIn, CubeIn}
 use Rattle.paper.proofs.Numbers.{sample-lt, sample-place, cube-inside, corner-inside}
 use Rattle.paper.proofs.Tables.{edgeOf, stands, inCube, kindHas, kinds-found, kind-lt, reachesLow, reaching, on-cube, on-cube-edges}
-
--- where the anchor of an edge's number stands
-unfoldable pub anchorOf : Sizes → ℕ → Place
-anchorOf z e = sampleAt z (e / 7)
 
 -- the least x, y and z of the anchors of three edges
 unfoldable pub cubeOf : Sizes → Tri → Place
@@ -56,15 +52,11 @@ module _ (z : Sizes) (p : Place) (hp : CubeIn z p) (e : Ends) (he : T (inCube e)
   unfolding edgeNo
   edge-kind = omega (arith, kind-lt e)
 
-  pub edge-lt : edgeNo z p e < 7 * samples z
+  pub edge-lt : edgeNo z p e < edgeNumbers z
   unfolding edgeNo
   edge-lt = omega (arith, kind-lt e, sample-lt z (corner p (low e)) (corner-inside z p hp (low e) (low-lt e he)))
 
 -- ── the ends of an edge's number ──
-
--- the kind of an edge's number, and the samples at its ends
-unfoldable pub endsOf : ℕ → Ends
-endsOf n = getD kinds (n % 7) (ends 0 0)
 
 stand-corner : (p : Place) (o c e : ℕ) → T (stands o c e) → corner (corner p o) c ≡ corner p e
 unfolding corner
@@ -77,22 +69,22 @@ stand-corner p o c e h =
 
 -- two places are those at the ends of an edge's number, in one order or the other
 pub record Joined (z : Sizes) (n : ℕ) (u v : Place) : Type 0 where
-  pub first : corner (anchorOf z n) (endsOf n .a) ≡ u
-  pub second : corner (anchorOf z n) (endsOf n .b) ≡ v
+  pub first : firstEnd z n ≡ u
+  pub second : secondEnd z n ≡ v
 
 -- the ends of an edge of a cube are those of its number
 pub edge-ends : (z : Sizes) (p : Place) → CubeIn z p → (e : Ends) → T (kindHas e)
     → Joined z (edgeNo z p e) (corner p (e .a)) (corner p (e .b)) ⊎ Joined z (edgeNo z p e) (corner p (e .b)) (corner p (e .a))
-unfolding kindHas endsOf
+unfolding kindHas endsOf firstEnd secondEnd
 edge-ends z p hp e h =
     let k = getD kinds (kindOf e) (ends 0 0) in
     let s = stands (low e) in
     let t = s (k .a) (e .a) && s (k .b) (e .b) || s (k .b) (e .a) && s (k .a) (e .b) in
     let he = in-cube e h in
-    let at : (c d : ℕ) → endsOf (edgeNo z p e) ≡ k → T (s c d) → corner (anchorOf z (edgeNo z p e)) c ≡ corner p d =
+    let at : (c d : ℕ) → endsOf (kindIn (edgeNo z p e)) ≡ k → T (s c d) → corner (anchorOf z (edgeNo z p e)) c ≡ corner p d =
     λ c d q h. ap (λ (w : Place). corner w c) (edge-anchor z p hp e he) ∙ stand-corner p (low e) c d h in
-    let q : endsOf (edgeNo z p e) ≡ k = ap (λ (m : ℕ). getD kinds m (ends 0 0)) (edge-kind z p hp e he) in
-    let one : (f : Ends → ℕ) (d : ℕ) → T (s (f k) d) → corner (anchorOf z (edgeNo z p e)) (f (endsOf (edgeNo z p e))) ≡ corner p d =
+    let q : endsOf (kindIn (edgeNo z p e)) ≡ k = ap (λ (m : ℕ). getD kinds m (ends 0 0)) (edge-kind z p hp e he) in
+    let one : (f : Ends → ℕ) (d : ℕ) → T (s (f k) d) → corner (anchorOf z (edgeNo z p e)) (f (endsOf (kindIn (edgeNo z p e)))) ≡ corner p d =
     λ f d h. ap (λ (w : Ends). corner (anchorOf z (edgeNo z p e)) (f w)) q ∙ at (f k) d q h in
     elim (or-cases (s (k .a) (e .a) && s (k .b) (e .b)) (s (k .b) (e .a) && s (k .a) (e .b)) (and-right (inCube e) t h)) [
       | inl h ↦ inl (record {
@@ -119,7 +111,7 @@ pub record Standing (L : Lattice) (n : ℕ) : Type 0 where
 
 standing-at : (L : Lattice) (n : ℕ) (u v : Place) (b c : Bool) → Joined (L .size) n u v → SampleIn (L .size) u → SampleIn (L .size) v
     → airAt L u ≡ b → airAt L v ≡ c → T (xor b c) → Standing L n
-unfolding xor vertexRecord anchorOf endsOf
+unfolding xor vertexRecord
 standing-at L n u v true true j hu hv eu ev x = absurd x
 standing-at L n u v true false j hu hv eu ev x = record {
   solid = v;
@@ -170,9 +162,9 @@ module _ (L : Lattice) (s : Sized (L .size)) (k : ℕ) (h : k < cubes (L .size))
   pub cube-edges-stand : All (Standing L) (cubeEdges L k)
   cube-edges-stand = cube-edges-join (Standing L) (λ n u v j hu hv x. standing-at L n u v (airAt L u) (airAt L v) j hu hv refl refl x)
 
-  pub cube-edges-lt : All (λ e. e < 7 * samples (L .size)) (cubeEdges L k)
+  pub cube-edges-lt : All (λ e. e < edgeNumbers (L .size)) (cubeEdges L k)
   cube-edges-lt =
-      on-cube-edges kindHas kinds-found (λ e. e < 7 * samples (L .size)) L k
+      on-cube-edges kindHas kinds-found (λ e. e < edgeNumbers (L .size)) L k
       (λ e g t. edge-lt (L .size) (cubeAt (L .size) k) (cube-inside (L .size) s k h) e (in-cube e g))
 
 -- ── the cube of a triangle ──

@@ -13,12 +13,12 @@ use Rattle.lists.proofs.Closure.{bool-same}
 use Rattle.paper.specs.declared.Sizes.{Sizes}
 use Rattle.paper.specs.Lattice.{Lattice, place, cubeNo, cubeAt, visited}
 use Rattle.paper.specs.Tables.{Tri, tri}
-use Rattle.paper.specs.Sheet.{cubeTriangles, sheetOf}
+use Rattle.paper.specs.Sheet.{anchorOf, cubeTriangles, sheetBy, sheetOf}
 use Rattle.paper.specs.Check.{sameTriangle, turned}
 use Rattle.paper.specs.Within.{Sized}
 use Rattle.paper.proofs.Numbers.{cube-back}
 use Rattle.paper.proofs.Visits.{visited-lt}
-use Rattle.paper.proofs.Edges.{anchorOf, cubeOf, cube-triangles-cube}
+use Rattle.paper.proofs.Edges.{cubeOf, cube-triangles-cube}
 
 -- ── turned triangles ──
 
@@ -70,7 +70,7 @@ pub in-sheet : (L : Lattice) → Sized (L .size) → (start : ℕ) (t : Tri)
     → any (turned t) (sheetOf L start .byEdge)
     ≡ (isIn (visited L start) (cubeNo (L .size) (cubeOf (L .size) t))
     && any (turned t) (cubeTriangles L (cubeNo (L .size) (cubeOf (L .size) t))))
-unfolding sheetOf
+unfolding sheetOf sheetBy
 in-sheet L s start t =
     let z = L .size in
     let vs = visited L start in

@@ -1,5 +1,7 @@
 -- Laws of the definitions.
+pub mod Cases
 pub mod Worked
+pub mod Pins
 pub mod Ints
 pub mod Numbers
 pub mod Tables

@@ -9,7 +9,7 @@ use lib.Dec.{leb}
 use Rattle.paper.specs.declared.Sizes.{Sizes}
 use Rattle.paper.specs.Lattice.{axes}
 use Rattle.paper.specs.Tests.{verdict}
-use Rattle.paper.specs.Build.{vertexRoom, triangleRoom}
+use Rattle.paper.specs.Room.{vertexRoom, triangleRoom}
 use Rattle.paper.specs.File.{limits, writeVerdict, fileV, fileT, laidOut}
 
 pub over-limit-write : (z : Sizes) (nv nt : ℕ) (vs : List ℤ) (ts : List ℕ) (room : ℕ) → axes z ≡ true → limits nv nt ≡ false

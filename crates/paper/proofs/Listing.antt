@@ -1,77 +1,29 @@
--- The lists of a sheet: the vertices' edges rise, are those of the visited cubes and no others, and each has a vertex within the
--- lattice; triangles name vertices by their places; the counts are the lengths. Assumes nothing.
-use mathlib.Core.Path.{_≡_, refl, sym, subst, _∙_}
+-- The lists of a sheet, of any cut: the vertices' edges rise, are those of the visited cubes and no others, and each has a vertex within
+-- the lattice; triangles name vertices by their places; the counts are the lengths. Assumes nothing.
+use mathlib.Core.Path.{_≡_, refl, sym, ap, subst, _∙_}
 use mathlib.Core.Bool.{Bool, true, false, cond, _&&_}
 use mathlib.Core.List.{List, [], _∷_, map}
-use Prim.Native.Nat.{ℕ, _-_, _*_, _/_, _%_, _<_}
+use Prim.Native.Nat.{ℕ, _-_, _*_, _<_}
 use native.Mathlib.Omega.{arith}
 use lib.IntN.{ℤ}
 use lib.Dec.{T}
 use lib.ListN.{length, getD}
 use Rattle.lists.specs.Lists.{range, keep, each, isIn}
 use Rattle.lists.proofs.Member.{and-both, and-left, and-right, and3, in-keep, in-range, range-in}
-use Rattle.lists.proofs.Every.{All, all-test, all-weak, all-map, all-each, all-in, in-all, each-sub, pick-in, each-length}
+use Rattle.lists.proofs.Every.{All, all-test, all-weak, all-map, all-each, all-in, in-all, each-sub, pick-in, each-length, each-map}
 use Rattle.lists.proofs.Rising.{Rising, keep-rising, rank-lt}
 use Rattle.lists.proofs.Runs.{rank-place}
 use Rattle.lists.proofs.Closure.{bool-same}
 use Rattle.lists.proofs.Counts.{Unique, rising-unique}
 use Rattle.paper.specs.declared.Place.{Place}
-use Rattle.paper.specs.Lattice.{Lattice, samples, sampleAt, airAt, corner, cubes, cubeAt, visited}
-use Rattle.paper.specs.Tables.{Tet, Tri, ends, tri, tets, rows, tetEdges, kinds}
-use Rattle.paper.specs.Sheet.{Sheet, edgeNo, split, cubeEdges, vertexEdges, recordAt, vertexRecord, rowAt, tetEdge, triEdges, cubeTriangles, numbered, sheetOf, vertexWords, corners3, triangleWords}
+use Rattle.paper.specs.Lattice.{Lattice, airAt, corner, cubes, cubeAt, visited}
+use Rattle.paper.specs.Tables.{Tet, Tri, ends, tri, tets, rows, tetEdges}
+use Rattle.paper.specs.Sheet.{Cut, Sheet, tetrahedra, edgeNumbers, edgeNo, firstEnd, secondEnd, split, cubeEdges, vertexEdges, recordAt, vertexRecord, rowAt, tetEdge, triEdges, trianglesAt, cubeTriangles, numbered, sheetBy, sheetOf, vertexWords, corners3, triangleWords}
 use Rattle.paper.specs.Within.{Sized, Below}
 use Rattle.paper.proofs.Visits.{visited-lt}
 use Rattle.paper.proofs.Tables.{differ, differs, row-differs}
 use Rattle.paper.proofs.Edges.{Standing, cube-edges-stand, cube-edges-lt}
 use Rattle.paper.proofs.Crossing.{Positioned, positioned}
-
--- ── the edges of the vertices ──
-
--- "Vertices are listed by rising edge number"
-pub edges-rising : (L : Lattice) (vs : List ℕ) → Rising 0 (vertexEdges L vs)
-unfolding vertexEdges
-edges-rising L vs = keep-rising (isIn (each (cubeEdges L) vs)) 0 (7 * samples (L .size))
-
--- each once
-pub edges-unique : (L : Lattice) (start : ℕ) → Unique (sheetOf L start .edges)
-unfolding sheetOf
-edges-unique L start = rising-unique 0 (vertexEdges L (visited L start)) (edges-rising L (visited L start))
-
--- each is the number of an edge of the lattice
-pub edges-lt : (L : Lattice) (vs : List ℕ) → All (λ e. e < 7 * samples (L .size)) (vertexEdges L vs)
-unfolding vertexEdges
-edges-lt L vs =
-    let M = each (cubeEdges L) vs in
-    let n = 7 * samples (L .size) in
-    in-all (λ e. e < n) (keep (isIn M) (range 0 n))
-    (λ e t. omega (arith, range-in 0 n e (and-left (isIn (range 0 n) e) (isIn M e) (subst T (in-keep (isIn M) (range 0 n) e) t))))
-
-module _ (L : Lattice) (s : Sized (L .size)) (vs : List ℕ) (in-lattice : All (λ k. k < cubes (L .size)) vs) where
-  marked-lt : All (λ e. e < 7 * samples (L .size)) (each (cubeEdges L) vs)
-  marked-lt =
-      all-each (λ e. e < 7 * samples (L .size)) (cubeEdges L) vs
-      (all-weak (λ k. k < cubes (L .size)) _ (λ k h. cube-edges-lt L s k h) vs in-lattice)
-
-  -- an edge has a vertex exactly when it is a side-changing edge of one of the cubes
-  pub edges-exactly : (e : ℕ) → isIn (vertexEdges L vs) e ≡ isIn (each (cubeEdges L) vs) e
-  unfolding vertexEdges
-  edges-exactly e =
-      let M = each (cubeEdges L) vs in
-      let n = 7 * samples (L .size) in
-      in-keep (isIn M) (range 0 n) e
-      ∙ bool-same (isIn (range 0 n) e && isIn M e) (isIn M e) (and-right (isIn (range 0 n) e) (isIn M e))
-      (λ t. and-both (isIn (range 0 n) e) (isIn M e) (in-range 0 n e (omega arith) (omega (arith, all-in (λ e. e < n) M marked-lt e t))) t)
-
-  -- and such an edge stands between a solid and an air sample of the lattice
-  pub edges-stand : All (Standing L) (vertexEdges L vs)
-  edges-stand =
-      in-all (Standing L) (vertexEdges L vs)
-      (λ e t.
-      all-in (Standing L) (each (cubeEdges L) vs)
-      (all-each (Standing L) (cubeEdges L) vs (all-weak (λ k. k < cubes (L .size)) _ (λ k h. cube-edges-stand L s k h) vs in-lattice)) e
-      (subst T (edges-exactly e) t))
-
--- ── the edges of the triangles ──
 
 -- a triangle's three edges are in a list
 pub record Among (M : List ℕ) (t : Tri) : Type 0 where
@@ -81,6 +33,110 @@ pub record Among (M : List ℕ) (t : Tri) : Type 0 where
 
 among-weak : (M N : List ℕ) → ((k : ℕ) → T (isIn M k) → T (isIn N k)) → (t : Tri) → Among M t → Among N t
 among-weak M N f t h = record { a = f (t .a) (h .a); b = f (t .b) (h .b); c = f (t .c) (h .c) }
+
+-- a cut is sound: its edges are edge numbers and stand between a solid and an air sample, and its triangles have edges of their cube
+pub record Sound (C : Cut) : Type 0 where
+  pub numbers : (L : Lattice) → Sized (L .size) → (k : ℕ) → k < cubes (L .size) → All (λ e. e < edgeNumbers (L .size)) (C .edges L k)
+  pub stand : (L : Lattice) → Sized (L .size) → (k : ℕ) → k < cubes (L .size) → All (Standing L) (C .edges L k)
+  pub among : (L : Lattice) (k : ℕ) → All (Among (C .edges L k)) (C .triangles L k)
+
+-- a triangle whose corners are named otherwise
+unfoldable pub named : (ℕ → ℕ) → Tri → Tri
+named f t = tri (f (t .a)) (f (t .b)) (f (t .c))
+
+-- ── any cut ──
+
+module _ (C : Cut) (L : Lattice) where
+  -- "Vertices are listed by rising edge number"
+  pub edges-rising : (ks : List ℕ) → Rising 0 (vertexEdges C L ks)
+  unfolding vertexEdges
+  edges-rising ks = keep-rising (isIn (each (C .edges L) ks)) 0 (edgeNumbers (L .size))
+
+  -- each is the number of an edge of the lattice
+  pub edges-lt : (ks : List ℕ) → All (λ e. e < edgeNumbers (L .size)) (vertexEdges C L ks)
+  unfolding vertexEdges
+  edges-lt ks =
+      let M = each (C .edges L) ks in
+      let n = edgeNumbers (L .size) in
+      in-all (λ e. e < n) (keep (isIn M) (range 0 n))
+      (λ e t. omega (arith, range-in 0 n e (and-left (isIn (range 0 n) e) (isIn M e) (subst T (in-keep (isIn M) (range 0 n) e) t))))
+
+  module _ (sound : Sound C) (s : Sized (L .size)) (ks : List ℕ) (in-lattice : All (λ k. k < cubes (L .size)) ks) where
+    abbrev M : List ℕ
+    M = each (C .edges L) ks
+
+    marked-lt : All (λ e. e < edgeNumbers (L .size)) M
+    marked-lt =
+        all-each (λ e. e < edgeNumbers (L .size)) (C .edges L) ks
+        (all-weak (λ k. k < cubes (L .size)) _ (λ k h. sound .numbers L s k h) ks in-lattice)
+
+    -- an edge has a vertex exactly when it is one of the cubes' own
+    pub edges-exactly : (e : ℕ) → isIn (vertexEdges C L ks) e ≡ isIn M e
+    unfolding vertexEdges
+    edges-exactly e =
+        let n = edgeNumbers (L .size) in
+        in-keep (isIn M) (range 0 n) e
+        ∙ bool-same (isIn (range 0 n) e && isIn M e) (isIn M e) (and-right (isIn (range 0 n) e) (isIn M e))
+        (λ t. and-both (isIn (range 0 n) e) (isIn M e) (in-range 0 n e (omega arith) (omega (arith, all-in (λ e. e < n) M marked-lt e t))) t)
+
+    -- and such an edge stands between a solid and an air sample of the lattice
+    pub edges-stand : All (Standing L) (vertexEdges C L ks)
+    edges-stand =
+        in-all (Standing L) (vertexEdges C L ks)
+        (λ e t.
+        all-in (Standing L) M
+        (all-each (Standing L) (C .edges L) ks (all-weak (λ k. k < cubes (L .size)) _ (λ k h. sound .stand L s k h) ks in-lattice)) e
+        (subst T (edges-exactly e) t))
+
+    -- every edge of the triangles has a vertex
+    pub edges-among : All (Among (vertexEdges C L ks)) (each (C .triangles L) ks)
+    edges-among =
+        all-weak (Among M) (Among (vertexEdges C L ks))
+        (among-weak M (vertexEdges C L ks) (λ e t. subst T (sym (edges-exactly e)) t)) (each (C .triangles L) ks)
+        (each-sub (Among M) M (C .triangles L) (C .edges L)
+        (λ k f. all-weak (Among (C .edges L k)) (Among M) (among-weak (C .edges L k) M f) (C .triangles L k) (sound .among L k)) ks (λ e h. h))
+
+pub visits-lt : (L : Lattice) (start : ℕ) → All (λ k. k < cubes (L .size)) (visited L start)
+visits-lt L start = in-all (λ k. k < cubes (L .size)) (visited L start) (visited-lt L start)
+
+-- the sheet of a cut
+module _ (C : Cut) (sound : Sound C) (L : Lattice) (s : Sized (L .size)) (start : ℕ) where
+  abbrev es : List ℕ
+  es = vertexEdges C L (visited L start)
+
+  abbrev ts : List Tri
+  ts = each (C .triangles L) (visited L start)
+
+  pub triangles-among : All (Among es) ts
+  triangles-among = edges-among C L sound s (visited L start) (visits-lt L start)
+
+  -- each vertex stands at 0 to 4,128,768 on each axis
+  pub vertices-positioned : All (Positioned L) es
+  vertices-positioned = all-weak (Standing L) (Positioned L) (positioned L s) es (edges-stand C L sound s (visited L start) (visits-lt L start))
+
+  -- every index of a triangle is below the number of vertices
+  pub numbers-below : All (Below (length es)) (map (numbered es) ts)
+  unfolding numbered
+  numbers-below =
+      all-map (Below (length es)) (numbered es) ts
+      (all-weak (Among es) (λ t. Below (length es) (numbered es t))
+      (λ t h. record { a = rank-lt es (t .a) (h .a); b = rank-lt es (t .b) (h .b); c = rank-lt es (t .c) (h .c) })
+      ts triangles-among)
+
+  -- and the vertices that it names are those of its edges
+  pub numbers-name : map (named (λ i. getD es i 0)) (map (numbered es) ts) ≡ ts
+  unfolding numbered named
+  numbers-name = go es (edges-rising C L (visited L start)) ts triangles-among
+    where
+      go : (es : List ℕ) → Rising 0 es → (ts : List Tri) → All (Among es) ts → map (named (λ i. getD es i 0)) (map (numbered es) ts) ≡ ts
+      go es r [] h = refl
+      go es r (t ∷ ts) h =
+          let a = rank-place es 0 0 (t .a) r (h .0 .a) in
+          let b = rank-place es 0 0 (t .b) r (h .0 .b) in
+          let c = rank-place es 0 0 (t .c) r (h .0 .c) in
+          λ i. tri (a i) (b i) (c i) ∷ go es r ts (h .1) i
+
+-- ── six tetrahedra to a cube ──
 
 -- the test of `differ` at the sides of a tetrahedron's corners
 abbrev differAt : Lattice → Place → Tet → ℕ → Bool
@@ -106,97 +162,89 @@ own-tri L p t M s r g =
     }
 
 -- every edge of a cube's triangles is one of the cube's side-changing edges
-pub cube-among : (L : Lattice) (k : ℕ) → All (Among (cubeEdges L k)) (cubeTriangles L k)
-unfolding cubeEdges cubeTriangles rowAt differs
+cube-among : (L : Lattice) (k : ℕ) → All (Among (cubeEdges L k)) (cubeTriangles L k)
+unfolding cubeEdges cubeTriangles trianglesAt rowAt differs
 cube-among L k =
     let p = cubeAt (L .size) k in
     let M = each (ownEdges L p) tets in
-    each-sub (Among M) M (λ t. map (triEdges (L .size) p t) (getD rows (rowAt L p t) [])) (ownEdges L p)
+    each-sub (Among M) M (λ t. map (triEdges (L .size) p t) (getD rows (rowAt (airAt L) p t) [])) (ownEdges L p)
     (λ t s.
     let a = airAt L (corner p (t .a)) in
     let b = airAt L (corner p (t .b)) in
     let c = airAt L (corner p (t .c)) in
     let d = airAt L (corner p (t .d)) in
-    let l = getD rows (rowAt L p t) [] in
+    let l = getD rows (rowAt (airAt L) p t) [] in
     all-map (Among M) (triEdges (L .size) p t) l
     (all-weak (λ r. T (differs a b c d r)) _ (λ r g. own-tri L p t M s r g) l (all-test (differs a b c d) l (row-differs a b c d))))
     tets (λ e h. h)
 
-pub cubes-among : (L : Lattice) (vs : List ℕ) → All (Among (each (cubeEdges L) vs)) (each (cubeTriangles L) vs)
-cubes-among L vs =
-    let M = each (cubeEdges L) vs in
-    each-sub (Among M) M (cubeTriangles L) (cubeEdges L)
-    (λ k s. all-weak (Among (cubeEdges L k)) (Among M) (among-weak (cubeEdges L k) M s) (cubeTriangles L k) (cube-among L k))
-    vs (λ e h. h)
+pub tetrahedra-sound : Sound tetrahedra
+tetrahedra-sound = record { numbers = cube-edges-lt; stand = cube-edges-stand; among = cube-among }
 
--- ── the sheet ──
+-- ── document 01's sheet ──
 
--- a triangle whose corners are named otherwise
-unfoldable pub named : (ℕ → ℕ) → Tri → Tri
-named f t = tri (f (t .a)) (f (t .b)) (f (t .c))
+-- its lists, by the cubes that are visited
+pub record Parts (L : Lattice) (start : ℕ) (S : Sheet) : Type 0 where
+  pub edges : S .edges ≡ vertexEdges tetrahedra L (visited L start)
+  pub records : S .records ≡ map (vertexRecord L) (S .edges)
+  pub by-edge : S .byEdge ≡ each (cubeTriangles L) (visited L start)
+  pub triangles : S .triangles ≡ map (numbered (S .edges)) (S .byEdge)
+  pub visits : S .visits ≡ length (visited L start)
+
+pub parts : (L : Lattice) (start : ℕ) → Parts L start (sheetOf L start)
+unfolding sheetOf sheetBy
+parts L start = record { edges = refl; records = refl; by-edge = refl; triangles = refl; visits = refl }
+
+-- each edge once
+pub edges-unique : (L : Lattice) (start : ℕ) → Unique (sheetOf L start .edges)
+unfolding sheetOf sheetBy
+edges-unique L start = rising-unique 0 (vertexEdges tetrahedra L (visited L start)) (edges-rising tetrahedra L (visited L start))
+
+pub sheet-edges-lt : (L : Lattice) (start : ℕ) → All (λ e. e < edgeNumbers (L .size)) (sheetOf L start .edges)
+unfolding sheetOf sheetBy
+sheet-edges-lt L start = edges-lt tetrahedra L (visited L start)
 
 module _ (L : Lattice) (s : Sized (L .size)) (start : ℕ) where
-  pub visits-lt : All (λ k. k < cubes (L .size)) (visited L start)
-  visits-lt = in-all (λ k. k < cubes (L .size)) (visited L start) (visited-lt L start)
+  -- its vertices are on the side-changing edges of the visited cubes
+  pub sheet-edges : (e : ℕ) → isIn (sheetOf L start .edges) e ≡ isIn (each (cubeEdges L) (visited L start)) e
+  unfolding sheetOf sheetBy
+  sheet-edges e = edges-exactly tetrahedra L tetrahedra-sound s (visited L start) (visits-lt L start) e
 
-  -- every edge of the triangles has a vertex
-  pub triangles-among : All (Among (vertexEdges L (visited L start))) (each (cubeTriangles L) (visited L start))
-  triangles-among =
-      let vs = visited L start in
-      all-weak (Among (each (cubeEdges L) vs)) (Among (vertexEdges L vs))
-      (among-weak (each (cubeEdges L) vs) (vertexEdges L vs) (λ e t. subst T (sym (edges-exactly L s vs visits-lt e)) t))
-      (each (cubeTriangles L) vs) (cubes-among L vs)
+  pub sheet-among : All (Among (sheetOf L start .edges)) (sheetOf L start .byEdge)
+  unfolding sheetOf sheetBy
+  sheet-among = triangles-among tetrahedra tetrahedra-sound L s start
 
-  -- each vertex stands at 0 to 4,128,768 on each axis
   pub sheet-positioned : All (Positioned L) (sheetOf L start .edges)
-  unfolding sheetOf
-  sheet-positioned =
-      all-weak (Standing L) (Positioned L) (positioned L s) (vertexEdges L (visited L start)) (edges-stand L s (visited L start) visits-lt)
+  unfolding sheetOf sheetBy
+  sheet-positioned = vertices-positioned tetrahedra tetrahedra-sound L s start
 
-  -- every index of a triangle is below the number of vertices
   pub indices-below : All (Below (length (sheetOf L start .edges))) (sheetOf L start .triangles)
-  unfolding sheetOf numbered
-  indices-below =
-      let es = vertexEdges L (visited L start) in
-      let ts = each (cubeTriangles L) (visited L start) in
-      all-map (Below (length es)) (numbered es) ts
-      (all-weak (Among es) (λ t. Below (length es) (numbered es t))
-      (λ t h. record { a = rank-lt es (t .a) (h .a); b = rank-lt es (t .b) (h .b); c = rank-lt es (t .c) (h .c) })
-      ts triangles-among)
+  unfolding sheetOf sheetBy
+  indices-below = numbers-below tetrahedra tetrahedra-sound L s start
 
-  -- and the vertices that it names are those of its edges
   pub indices-name : map (named (λ i. getD (sheetOf L start .edges) i 0)) (sheetOf L start .triangles) ≡ sheetOf L start .byEdge
-  unfolding sheetOf numbered named
-  indices-name =
-      let es = vertexEdges L (visited L start) in
-      go es (edges-rising L (visited L start)) (each (cubeTriangles L) (visited L start)) triangles-among
-    where
-      go : (es : List ℕ) → Rising 0 es → (ts : List Tri) → All (Among es) ts → map (named (λ i. getD es i 0)) (map (numbered es) ts) ≡ ts
-      go es r [] h = refl
-      go es r (t ∷ ts) h =
-          let a = rank-place es 0 0 (t .a) r (h .0 .a) in
-          let b = rank-place es 0 0 (t .b) r (h .0 .b) in
-          let c = rank-place es 0 0 (t .c) r (h .0 .c) in
-          λ i. tri (a i) (b i) (c i) ∷ go es r ts (h .1) i
+  unfolding sheetOf sheetBy
+  indices-name = numbers-name tetrahedra tetrahedra-sound L s start
 
--- ── counts ──
+-- ── numbers ──
 
 pub record-length : (L : Lattice) (e : ℕ) → length (vertexRecord L e) ≡ 4
 unfolding vertexRecord recordAt
-record-length L e =
-    let anchor = sampleAt (L .size) (e / 7) in
-    let k = getD kinds (e % 7) (ends 0 0) in
-    go (airAt L (corner anchor (k .a))) (recordAt L e (corner anchor (k .b)) (corner anchor (k .a))) (recordAt L e (corner anchor (k .a)) (corner anchor (k .b))) refl refl
+record-length L e = go (airAt L (firstEnd (L .size) e)) (recordAt L e (secondEnd (L .size) e) (firstEnd (L .size) e)) (recordAt L e (firstEnd (L .size) e) (secondEnd (L .size) e)) refl refl
   where
     go : (b : Bool) (x y : List ℤ) → length x ≡ 4 → length y ≡ 4 → length (cond b x y) ≡ 4
     go true x y hx hy = hx
     go false x y hx hy = hy
 
--- four numbers a vertex, three a triangle
-pub vertex-words-length : (L : Lattice) (S : Sheet) → length (vertexWords L S) ≡ 4 * length (S .edges)
-unfolding vertexWords
-vertex-words-length L S = each-length (vertexRecord L) 4 (record-length L) (S .edges)
+-- the numbers of the records are those of the vertices, four each
+pub vertex-words : (L : Lattice) (start : ℕ) → vertexWords (sheetOf L start) ≡ each (vertexRecord L) (sheetOf L start .edges)
+unfolding vertexWords sheetOf sheetBy
+vertex-words L start = each-map (λ r. r) (vertexRecord L) (sheetOf L start .edges)
 
+pub vertex-words-length : (L : Lattice) (start : ℕ) → length (vertexWords (sheetOf L start)) ≡ 4 * length (sheetOf L start .edges)
+vertex-words-length L start = ap length (vertex-words L start) ∙ each-length (vertexRecord L) 4 (record-length L) (sheetOf L start .edges)
+
+-- three a triangle
 pub triangle-words-length : (S : Sheet) → length (triangleWords S) ≡ 3 * length (S .triangles)
 unfolding triangleWords
 triangle-words-length S = each-length corners3 3 (λ t. refl) (S .triangles)

@@ -13,16 +13,19 @@ use Rattle.lists.proofs.Member.{eq→T}
 use Rattle.lists.proofs.Runs.{any-first}
 use Rattle.paper.specs.declared.Start.{Start}
 use Rattle.paper.specs.declared.Start.the-variants.{Unnamed, Cube}
-use Rattle.paper.specs.Lattice.{Lattice, cubes, crossed, lowest}
-use Rattle.paper.specs.Sheet.{Sheet, sheetOf}
+use Rattle.paper.specs.declared.Sizes.{Sizes}
+use Rattle.paper.specs.Lattice.{Lattice, cubes, lowest, mayStart}
+use Rattle.paper.specs.Sheet.{Sheet, vertexRecord, sheetOf}
 use Rattle.paper.specs.Within.{Sized}
 use Rattle.paper.specs.Tests.{Test, verdict, judge}
-use Rattle.paper.specs.Build.{Lent, vertexRoom, triangleRoom, startOf, named, starts, sampleTests, roomTests, buildNumber, counts, counted, uncounted, built, clears, workAfter}
+use Rattle.paper.specs.Room.{Work, work, Lengths, lengths, needed, neededSlots, vertexRoom, triangleRoom, roomTests, clears, frontAfter, clean, workAfter}
+use Rattle.paper.specs.Build.{Lent, startOf, named, starts, shapeTests, startTests, sampleTests, buildNumber, counts, counted, uncounted, built}
 use Rattle.paper.specs.File.{badTriangle, fileV, fileT, fileTriangles, fileTests}
 use Rattle.paper.specs.Check.{sheetTests, checked}
 use Rattle.paper.proofs.Tested.{indices-passed, Compared, compared}
 use Rattle.paper.proofs.Numbers.{cube-lt}
 use Rattle.paper.proofs.Visits.{in-lattice}
+use Rattle.paper.proofs.Listing.{parts}
 use Rattle.paper.proofs.Judged.{Numbered, Passed, numbered-both, passed-both, judge-all, judge-among, judge-placeless, sized}
 
 -- ── 1 to 5 ──
@@ -36,36 +39,36 @@ starting : (L : Lattice) (s : Start) → named (L .size) s ≡ true → starts L
 unfolding lowest
 starting L Unnamed t h =
     let n = cubes (L .size) in
-    ltb→lt (first (crossed L) n (range 0 n)) n (eq→T (sym (any-first (crossed L) n) ∙ h))
+    ltb→lt (first (mayStart L) n (range 0 n)) n (eq→T (sym (any-first (mayStart L) n) ∙ h))
 starting L (Cube p) t h = cube-lt (L .size) p (in-lattice (L .size) p (eq→T t))
 
-module _ (L : Lattice) (s : Start) (w q e : ℕ) where
-  pub sample-numbered : Numbered (sampleTests L s w q e)
-  unfolding sampleTests
+module _ (L : Lattice) (s : Start) (m : Lengths) where
+  pub sample-numbered : Numbered (sampleTests L s m)
+  unfolding sampleTests shapeTests startTests
   sample-numbered = (omega arith, (omega arith, (omega arith, (omega arith, (omega arith, tt)))))
 
-  pub sample-passed : Passed (sampleTests L s w q e) → Started L s
-  unfolding sampleTests
+  pub sample-passed : Passed (sampleTests L s m) → Started L s
+  unfolding sampleTests shapeTests startTests
   sample-passed p = record { sizes = sized (L .size) (p .0); start = starting L s (p .1 .1 .1 .0) (p .1 .1 .1 .1 .0) }
 
-  pub sample-tests : judge (sampleTests L s w q e) .number ≡ 0 → Started L s
-  sample-tests z = sample-passed (judge-all (sampleTests L s w q e) sample-numbered z)
+  pub sample-tests : judge (sampleTests L s m) .number ≡ 0 → Started L s
+  sample-tests z = sample-passed (judge-all (sampleTests L s m) sample-numbered z)
 
   -- they have no place, and where one fails nothing is counted or cleared
-  pub sample-answer : (n : ℕ) → n ≡ judge (sampleTests L s w q e) .number → verdict n 0 ≡ judge (sampleTests L s w q e)
-  unfolding sampleTests
-  sample-answer n f = λ k. verdict (f k) (sym (judge-placeless (sampleTests L s w q e) (refl, (refl, (refl, (refl, (refl, tt)))))) k)
+  pub sample-answer : (n : ℕ) → n ≡ judge (sampleTests L s m) .number → verdict n 0 ≡ judge (sampleTests L s m)
+  unfolding sampleTests shapeTests startTests
+  sample-answer n f = λ k. verdict (f k) (sym (judge-placeless (sampleTests L s m) (refl, (refl, (refl, (refl, (refl, tt)))))) k)
 
-  module _ (h : judge (sampleTests L s w q e) .number ≡ 0 → ⊥) where
-    pub sample-counts : counts (judge (sampleTests L s w q e) .number) ≡ false
-    unfolding sampleTests
+  module _ (h : judge (sampleTests L s m) .number ≡ 0 → ⊥) where
+    pub sample-counts : counts (judge (sampleTests L s m) .number) ≡ false
+    unfolding sampleTests shapeTests startTests
     sample-counts =
-        judge-among (λ n. counts n ≡ false) (sampleTests L s w q e) (refl, (refl, (refl, (refl, (refl, tt))))) (λ z. absurd (h z))
+        judge-among (λ n. counts n ≡ false) (sampleTests L s m) (refl, (refl, (refl, (refl, (refl, tt))))) (λ z. absurd (h z))
 
-    pub sample-keeps : clears (judge (sampleTests L s w q e) .number) ≡ false
-    unfolding sampleTests
+    pub sample-keeps : clears (judge (sampleTests L s m) .number) ≡ false
+    unfolding sampleTests shapeTests startTests
     sample-keeps =
-        judge-among (λ n. clears n ≡ false) (sampleTests L s w q e) (refl, (refl, (refl, (refl, (refl, tt))))) (λ z. absurd (h z))
+        judge-among (λ n. clears n ≡ false) (sampleTests L s m) (refl, (refl, (refl, (refl, (refl, tt))))) (λ z. absurd (h z))
 
 -- ── 6 and 7 ──
 
@@ -101,7 +104,7 @@ module _ (L : Lattice) (s : Start) (l : Lent) where
   S = sheetOf L (startOf L s)
 
   abbrev first-tests : List Test
-  first-tests = sampleTests L s (length (l .words)) (length (l .waiting)) (length (l .slots))
+  first-tests = sampleTests L s (lengths (l .work))
 
   abbrev last-tests : List Test
   last-tests = roomTests (length (S .edges)) (length (S .triangles)) (vertexRoom (l .vertices)) (triangleRoom (l .triangles))
@@ -134,19 +137,27 @@ module _ (L : Lattice) (s : Start) (l : Lent) where
       room-passed f g v t
       (passed-both first-tests last-tests
       (judge-all (first-tests ++ last-tests)
-      (numbered-both first-tests last-tests (sample-numbered L s (length (l .words)) (length (l .waiting)) (length (l .slots))) (room-numbered f g v t))
+      (numbered-both first-tests last-tests (sample-numbered L s (lengths (l .work))) (room-numbered f g v t))
       (sym built-number ∙ e)) .1)
 
 -- ── work room ──
 
-module _ (number n : ℕ) (old : List ℕ) where
-  pub work-kept : clears number ≡ false → workAfter number n old ≡ old
-  unfolding workAfter
-  work-kept e = ap (λ (b : Bool). cond b (cleared n old) old) e
+module _ (number : ℕ) where
+  front-kept : clears number ≡ false → (n : ℕ) (old : List ℕ) → frontAfter number n old ≡ old
+  unfolding frontAfter
+  front-kept e n old = ap (λ (b : Bool). cond b (cleared n old) old) e
 
-  pub work-cleared : clears number ≡ true → workAfter number n old ≡ cleared n old
-  unfolding workAfter
-  work-cleared e = ap (λ (b : Bool). cond b (cleared n old) old) e
+  front-cleared : clears number ≡ true → (n : ℕ) (old : List ℕ) → frontAfter number n old ≡ cleared n old
+  unfolding frontAfter
+  front-cleared e n old = ap (λ (b : Bool). cond b (cleared n old) old) e
+
+  pub work-kept : (z : Sizes) (w : Work) → clears number ≡ false → workAfter number z w ≡ w
+  work-kept z w e =
+      λ k. work (front-kept e (needed z) (w .words) k) (front-kept e (needed z) (w .waiting) k) (front-kept e (neededSlots z) (w .slots) k)
+
+  pub work-cleared : (z : Sizes) (w : Work) → clears number ≡ true → workAfter number z w ≡ clean z w
+  work-cleared z w e =
+      λ k. work (front-cleared e (needed z) (w .words) k) (front-cleared e (needed z) (w .waiting) k) (front-cleared e (neededSlots z) (w .slots) k)
 
 -- ── 11 to 19 ──
 
@@ -158,19 +169,20 @@ pub file-keeps : (bs : List ℕ) → (judge (fileTests bs) .number ≡ 0 → ⊥
 unfolding fileTests
 file-keeps bs h = judge-among (λ n. clears n ≡ false) (fileTests bs) (refl, (refl, (refl, (refl, (refl, tt))))) (λ z. absurd (h z))
 
-pub sheet-numbered : (L : Lattice) (S : Sheet) (bs : List ℕ) → Numbered (sheetTests L S bs)
+pub sheet-numbered : (z : Sizes) (S : Sheet) (bs : List ℕ) → Numbered (sheetTests z S bs)
 unfolding sheetTests
-sheet-numbered L S bs = (omega arith, (omega arith, (omega arith, (omega arith, tt))))
+sheet-numbered z S bs = (omega arith, (omega arith, (omega arith, (omega arith, tt))))
 
 -- a file that is accepted passes them all
-pub all-passed : (L : Lattice) (s : Start) (bs : List ℕ) (w q e : ℕ) → checked L s bs w q e .number ≡ 0
-    → Passed (sampleTests L s w q e) × Passed (fileTests bs) × Passed (sheetTests L (sheetOf L (startOf L s)) bs)
+pub all-passed : (L : Lattice) (s : Start) (bs : List ℕ) (m : Lengths) → checked L s bs m .number ≡ 0
+    → Passed (sampleTests L s m) × Passed (fileTests bs) × Passed (sheetTests (L .size) (sheetOf L (startOf L s)) bs)
 unfolding checked
-all-passed L s bs w q e n =
-    let a = sampleTests L s w q e in
+all-passed L s bs m n =
+    let a = sampleTests L s m in
     let b = fileTests bs in
-    let c = sheetTests L (sheetOf L (startOf L s)) bs in
-    let k = numbered-both (a ++ b) c (numbered-both a b (sample-numbered L s w q e) (file-numbered bs)) (sheet-numbered L (sheetOf L (startOf L s)) bs) in
+    let S = sheetOf L (startOf L s) in
+    let c = sheetTests (L .size) S bs in
+    let k = numbered-both (a ++ b) c (numbered-both a b (sample-numbered L s m) (file-numbered bs)) (sheet-numbered (L .size) S bs) in
     let x = passed-both (a ++ b) c (judge-all (a ++ b ++ c) k n) in
     let y = passed-both a b (x .0) in
     (y .0, y .1, x .1)
@@ -178,9 +190,14 @@ all-passed L s bs w q e n =
 pub record Accepted (L : Lattice) (s : Start) (bs : List ℕ) : Type 0 where
   pub started : Started L s
   pub indices : (i : ℕ) → i < fileT bs → badTriangle (fileV bs) (fileTriangles bs) i ≡ false
-  pub compared : Compared L (sheetOf L (startOf L s)) bs
+  pub compared : Compared (L .size) (vertexRecord L) (sheetOf L (startOf L s)) bs
 
-pub accepted : (L : Lattice) (s : Start) (bs : List ℕ) (w q e : ℕ) → checked L s bs w q e .number ≡ 0 → Accepted L s bs
-accepted L s bs w q e n =
-    let p = all-passed L s bs w q e n in
-    record { started = sample-passed L s w q e (p .0); indices = indices-passed bs (p .1); compared = compared L (sheetOf L (startOf L s)) bs (p .2) }
+pub accepted : (L : Lattice) (s : Start) (bs : List ℕ) (m : Lengths) → checked L s bs m .number ≡ 0 → Accepted L s bs
+accepted L s bs m n =
+    let p = all-passed L s bs m n in
+    let k = startOf L s in
+    record {
+      started = sample-passed L s m (p .0);
+      indices = indices-passed bs (p .1);
+      compared = compared (L .size) (vertexRecord L) (sheetOf L k) bs (parts L k .records) (p .2);
+    }

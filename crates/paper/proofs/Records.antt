@@ -2,7 +2,7 @@
 use mathlib.Core.Path.{_≡_, refl, sym, ap, subst, _∙_}
 use mathlib.Core.Bool.{Bool, true, false, cond}
 use mathlib.Core.List.{List, [], _∷_}
-use Prim.Native.Nat.{ℕ, _*_, _/_, _%_}
+use Prim.Native.Nat.{ℕ, _*_}
 use native.Mathlib.Omega.{arith}
 use lib.IntN.{ℤ, pos, negsuc, natAbs}
 use lib.Dec.{T, eqb→eq, eqb-refl}
@@ -10,9 +10,8 @@ use lib.ListN.{getD, drop}
 use lib.Seq.{getD-take, getD-drop}
 use Rattle.lists.proofs.Member.{and-both, and-left, and-right}
 use Rattle.paper.specs.declared.Place.{Place}
-use Rattle.paper.specs.Lattice.{Lattice, sampleAt, airAt, corner}
-use Rattle.paper.specs.Tables.{ends, kinds}
-use Rattle.paper.specs.Sheet.{recordAt, vertexRecord}
+use Rattle.paper.specs.Lattice.{Lattice, airAt}
+use Rattle.paper.specs.Sheet.{firstEnd, secondEnd, recordAt, vertexRecord}
 use Rattle.paper.specs.Check.{sameNumber, sameNumbers, recordOf, edgeOf}
 
 pub same-number : (x y : ℤ) → T (sameNumber x y) → x ≡ y
@@ -47,10 +46,7 @@ numbers-same l m e = subst (λ (k : List ℤ). T (sameNumbers l k)) e (numbers-o
 -- a vertex record begins with its edge
 first-number : (L : Lattice) (e : ℕ) → getD (vertexRecord L e) 0 (pos 0) ≡ pos e
 unfolding vertexRecord recordAt
-first-number L e =
-    let anchor = sampleAt (L .size) (e / 7) in
-    let k = getD kinds (e % 7) (ends 0 0) in
-    go (airAt L (corner anchor (k .a))) (corner anchor (k .a)) (corner anchor (k .b))
+first-number L e = go (airAt L (firstEnd (L .size) e)) (firstEnd (L .size) e) (secondEnd (L .size) e)
   where
     go : (b : Bool) (u v : Place) → getD (cond b (recordAt L e v u) (recordAt L e u v)) 0 (pos 0) ≡ pos e
     go true u v = refl

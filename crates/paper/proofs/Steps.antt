@@ -11,10 +11,10 @@ use Rattle.lists.specs.Lists.{each, isIn}
 use Rattle.lists.proofs.Member.{and3, both3, any-each, in-consIf, consIf-in}
 use Rattle.lists.proofs.Every.{any-at, at-any}
 use Rattle.paper.specs.declared.Place.{Place}
-use Rattle.paper.specs.Lattice.{Lattice, Face, place, face, airAt, cubes, cubeNo, cubeAt, corner, mixed, mixedAt, inLattice, faces, faceAt, stepOver, steps}
+use Rattle.paper.specs.Lattice.{Lattice, Face, place, face, airAt, cubes, cubeNo, cubeAt, corner, mixed, mixedAt, visitable, faces, faceAt, stepOver, steps}
 use Rattle.paper.specs.Within.{Sized}
 use Rattle.paper.proofs.Numbers.{cube-inside, cube-back, cube-place}
-use Rattle.paper.proofs.Visits.{in-lattice, lattice-in}
+use Rattle.paper.proofs.Visits.{visitable-in, in-visitable}
 
 -- the other end of the same axis
 abbrev pub opposite : ℕ → ℕ
@@ -103,21 +103,21 @@ step-back L s j k hj t =
     let hi : i < 6 = omega (arith, w .1, six p) in
     let f = faceAt p i in
     let b = f .beyond in
-    let e = in-consIf (f .there && inLattice z b && mixedAt L p (f .corners)) (cubeNo z b) k (w .2) in
-    let m = and3 (f .there) (inLattice z b) (mixedAt L p (f .corners)) (e .0) in
+    let e = in-consIf (f .there && visitable L b && mixedAt L p (f .corners)) (cubeNo z b) k (w .2) in
+    let m = and3 (f .there) (visitable L b) (mixedAt L p (f .corners)) (e .0) in
     let g = faceAt b (opposite i) in
     let r = face-shared p i hi (m .0) in
-    let hb = in-lattice z b (m .1) in
+    let hb = visitable-in L b (m .1) in
     let place-k : cubeAt z k ≡ b = ap (cubeAt z) (e .1) ∙ cube-place z b (omega (arith, hb)) (omega (arith, hb)) in
     let same : mixedAt L b (g .corners) ≡ mixedAt L p (f .corners) =
     mixed-samples L b (g .corners) ∙ (ap (λ (l : List Place). mixed (map (airAt L) l)) (r .samples) ∙ sym (mixed-samples L p (f .corners))) in
-    let inside : T (inLattice z (g .beyond)) = subst (λ (q : Place). T (inLattice z q)) (sym (r .back)) (lattice-in z p (cube-inside z s j hj)) in
+    let inside : T (visitable L (g .beyond)) = subst (λ (q : Place). T (visitable L q)) (sym (r .back)) (in-visitable L p (cube-inside z s j hj)) in
     let number : cubeNo z (g .beyond) ≡ j = ap (cubeNo z) (r .back) ∙ cube-back z s j hj in
-    let open-way : T (g .there && inLattice z (g .beyond) && mixedAt L b (g .corners)) =
-    both3 (g .there) (inLattice z (g .beyond)) (mixedAt L b (g .corners)) (r .there) inside (subst T (sym same) (m .2)) in
+    let open-way : T (g .there && visitable L (g .beyond) && mixedAt L b (g .corners)) =
+    both3 (g .there) (visitable L (g .beyond)) (mixedAt L b (g .corners)) (r .there) inside (subst T (sym same) (m .2)) in
     let over : T (isIn (stepOver L b g) j) =
     subst (λ (n : ℕ). T (isIn (stepOver L b g) n)) number
-    (consIf-in (g .there && inLattice z (g .beyond) && mixedAt L b (g .corners)) (cubeNo z (g .beyond)) open-way) in
+    (consIf-in (g .there && visitable L (g .beyond) && mixedAt L b (g .corners)) (cubeNo z (g .beyond)) open-way) in
     subst (λ (q : Place). T (isIn (each (stepOver L q) (faces q)) j)) (sym place-k)
     (subst T (sym (any-each (eqb j) (stepOver L b) (faces b)))
     (at-any (λ f. isIn (stepOver L b f) j) (faces b) (face [] false b) (opposite i) (omega (arith, six b)) over))

@@ -14,9 +14,9 @@ use Rattle.lists.proofs.Member.{in-range}
 use Rattle.lists.proofs.Every.{All, all-test, all-weak, all-getD, all-in, all-map, all-keep, all-each, each-le}
 use Rattle.lists.proofs.Runs.{first-lt}
 use Rattle.paper.specs.declared.Place.{Place}
-use Rattle.paper.specs.Lattice.{Lattice, cubeAt}
+use Rattle.paper.specs.Lattice.{airAt, Lattice, cubeAt}
 use Rattle.paper.specs.Tables.{Ends, Tet, Tri, ends, tets, rows, tetEdges, kinds, low, joins, kindOf}
-use Rattle.paper.specs.Sheet.{edgeNo, split, cubeEdges, weight, rowOf, rowAt, triEdges, cubeTriangles}
+use Rattle.paper.specs.Sheet.{edgeNo, split, cubeEdges, weight, rowOf, rowAt, triEdges, trianglesAt, cubeTriangles}
 
 -- ── entries ──
 
@@ -78,7 +78,7 @@ row-bits a b c d = go a b c d
       fourth = omega (arith, w a 8, w b 4, w c 2, one a, one b, one c, one d);
     }
 
-pub row-lt : (L : Lattice) (p : Place) (t : Tet) → rowAt L p t < 16
+pub row-lt : (L : Lattice) (p : Place) (t : Tet) → rowAt (airAt L) p t < 16
 unfolding rowAt
 row-lt L p t = row-bits _ _ _ _ .below
 
@@ -98,27 +98,27 @@ row-short n =
 
 -- "At most 12 triangles come from a cube."
 pub at-most-12 : (L : Lattice) (k : ℕ) → length (cubeTriangles L k) ≤ 12
-unfolding cubeTriangles tets
+unfolding cubeTriangles trianglesAt tets
 at-most-12 L k =
-    each-le (λ t. map (triEdges (L .size) (cubeAt (L .size) k) t) (getD rows (rowAt L (cubeAt (L .size) k) t) [])) 2
+    each-le (λ t. map (triEdges (L .size) (cubeAt (L .size) k) t) (getD rows (rowAt (airAt L) (cubeAt (L .size) k) t) [])) 2
     (λ t.
     subst (λ (m : ℕ). m ≤ 2)
-    (sym (length-map (getD rows (rowAt L (cubeAt (L .size) k) t) []) (triEdges (L .size) (cubeAt (L .size) k) t)))
-    (row-short (rowAt L (cubeAt (L .size) k) t)))
+    (sym (length-map (getD rows (rowAt (airAt L) (cubeAt (L .size) k) t) []) (triEdges (L .size) (cubeAt (L .size) k) t)))
+    (row-short (rowAt (airAt L) (cubeAt (L .size) k) t)))
     tets
 
 -- what is tested holds of each triangle of a cube
 pub on-cube : (p : Tet → ℕ → Tri → Bool) → T (everyTriangle p) → (Q : Tri → Type 0) (L : Lattice) (k : ℕ)
-    → ((t : Tet) (r : Tri) → T (p t (rowAt L (cubeAt (L .size) k) t) r) → Q (triEdges (L .size) (cubeAt (L .size) k) t r))
+    → ((t : Tet) (r : Tri) → T (p t (rowAt (airAt L) (cubeAt (L .size) k) t) r) → Q (triEdges (L .size) (cubeAt (L .size) k) t r))
     → All Q (cubeTriangles L k)
-unfolding cubeTriangles
+unfolding cubeTriangles trianglesAt
 on-cube p h Q L k f =
     let at = cubeAt (L .size) k in
-    all-each Q (λ t. map (triEdges (L .size) at t) (getD rows (rowAt L at t) [])) tets
+    all-each Q (λ t. map (triEdges (L .size) at t) (getD rows (rowAt (airAt L) at t) [])) tets
     (all-weak (λ t. (n : ℕ) → n < 16 → All (λ r. T (p t n r)) (getD rows n [])) _
     (λ t g.
-    all-map Q (triEdges (L .size) at t) (getD rows (rowAt L at t) [])
-    (all-weak (λ r. T (p t (rowAt L at t) r)) _ (λ r e. f t r e) (getD rows (rowAt L at t) []) (g (rowAt L at t) (row-lt L at t))))
+    all-map Q (triEdges (L .size) at t) (getD rows (rowAt (airAt L) at t) [])
+    (all-weak (λ r. T (p t (rowAt (airAt L) at t) r)) _ (λ r e. f t r e) (getD rows (rowAt (airAt L) at t) []) (g (rowAt (airAt L) at t) (row-lt L at t))))
     tets (on-triangles p h))
 
 -- what holds of each edge of a tetrahedron that passes a test of every edge, and whose ends are on different sides, holds of each

@@ -9,7 +9,7 @@ use Rattle.lists.proofs.Member.{and-left, and-right, and3, both3, any-each, any
 use Rattle.lists.proofs.Closure.{sound, complete, reached-kept, reached-lt}
 use Rattle.paper.specs.declared.Sizes.{Sizes}
 use Rattle.paper.specs.declared.Place.{Place}
-use Rattle.paper.specs.Lattice.{Lattice, axis, axes, cubes, cubeNo, cubeAt, inLattice, mixedAt, faces, stepOver, steps, Visited, visited}
+use Rattle.paper.specs.Lattice.{Lattice, axis, axes, cubes, cubeNo, cubeAt, inLattice, visitable, mixedAt, faces, stepOver, steps, Visited, visited}
 use Rattle.paper.specs.Within.{Sized, CubeIn}
 use Rattle.paper.proofs.Numbers.{cube-lt}
 
@@ -49,6 +49,15 @@ lattice-in z p h =
     both3 (ltb (p .x + 1) (z .nx)) (ltb (p .y + 1) (z .ny)) (ltb (p .z + 1) (z .nz)) (lt→ltb _ _ (h .x)) (lt→ltb _ _ (h .y))
     (lt→ltb _ _ (h .z))
 
+-- a cube that may be visited is one of the lattice
+pub visitable-in : (L : Lattice) (p : Place) → T (visitable L p) → CubeIn (L .size) p
+unfolding visitable
+visitable-in L p t = in-lattice (L .size) p t
+
+pub in-visitable : (L : Lattice) (p : Place) → CubeIn (L .size) p → T (visitable L p)
+unfolding visitable
+in-visitable L p h = lattice-in (L .size) p h
+
 -- a step leads to a cube of the lattice
 pub step-lt : (L : Lattice) (j k : ℕ) → T (isIn (steps L j) k) → k < cubes (L .size)
 unfolding steps stepOver
@@ -57,11 +66,11 @@ step-lt L j k t =
     let w = any-some (λ f. isIn (stepOver L p f) k) (faces p) (subst T (any-each (eqb k) (stepOver L p) (faces p)) t) in
     let f = w .0 in
     let n = f .there in
-    let i = inLattice (L .size) (f .beyond) in
+    let i = visitable L (f .beyond) in
     let m = mixedAt L p (f .corners) in
     let e = in-consIf (n && i && m) (cubeNo (L .size) (f .beyond)) k (w .1) in
     subst (λ (q : ℕ). q < cubes (L .size)) (sym (e .1))
-    (cube-lt (L .size) (f .beyond) (in-lattice (L .size) (f .beyond) (and3 n i m (e .0) .1)))
+    (cube-lt (L .size) (f .beyond) (visitable-in L (f .beyond) (and3 n i m (e .0) .1)))
 
 -- "The visited cubes are the start cube and every cube reached from it": the list holds exactly these
 pub record Exactly (L : Lattice) (start k : ℕ) : Type 0 where

@@ -1,84 +1,66 @@
 -- Document 01, building: the answer, and what each lent slice then holds. Assumes nothing.
 use mathlib.Core.Path.{_≡_}
-use mathlib.Core.Bool.{Bool, true, cond, _&&_}
+use mathlib.Core.Bool.{Bool, true, cond}
 use mathlib.Core.List.{List, [], _∷_, _++_}
-use Prim.Native.Nat.{ℕ, _*_, _/_}
+use Prim.Native.Nat.{ℕ}
 use lib.IntN.{ℤ}
-use lib.Dec.{leb, eqb}
+use lib.Dec.{eqb}
 use lib.ListN.{length}
-use Rattle.lists.specs.Lists.{range, any, over, cleared, isIn}
+use Rattle.lists.specs.Lists.{range, any, isIn}
 use Rattle.paper.specs.declared.Sizes.{Sizes}
 use Rattle.paper.specs.declared.Start.{Start}
 use Rattle.paper.specs.declared.Start.the-variants.{Unnamed, Cube}
 use Rattle.paper.specs.declared.Built.{Built}
-use Rattle.paper.specs.Lattice.{Lattice, axes, samples, cubes, cubeNo, crossed, inLattice, lowest}
-use Rattle.paper.specs.Sheet.{Sheet, sheetOf, recordLength, vertexWords, triangleWords}
+use Rattle.paper.specs.Lattice.{Lattice, axes, samples, cubes, cubeNo, crossed, inLattice, lowest, mayStart}
+use Rattle.paper.specs.Sheet.{Sheet, sheetOf, vertexWords, triangleWords}
 use Rattle.paper.specs.Tests.{Test, test, judge}
+use Rattle.paper.specs.Room.{Work, Lengths, lengths, roomy, vertexRoom, triangleRoom, roomTests, workAfter, outputAfter}
 
 -- "Lent room": what a build is lent
 pub record Lent : Type 0 where
   pub vertices : List ℤ
   pub triangles : List ℕ
-  pub words : List ℕ
-  pub waiting : List ℕ
-  pub slots : List ℕ
+  pub work : Work
 
-abbrev pub lent : List ℤ → List ℕ → List ℕ → List ℕ → List ℕ → Lent
-lent vs ts cw wl es = record { vertices = vs; triangles = ts; words = cw; waiting = wl; slots = es }
+abbrev pub lent : List ℤ → List ℕ → Work → Lent
+lent vs ts w = record { vertices = vs; triangles = ts; work = w }
 
--- "Vertex room is the slice length divided by 4, triangle room by 3, both rounded down."
-abbrev pub vertexRoom : List ℤ → ℕ
-vertexRoom l = length l / recordLength
-
-abbrev pub triangleRoom : List ℕ → ℕ
-triangleRoom l = length l / 3
-
--- how many numbers of each work slice are needed
-abbrev pub needed : Sizes → ℕ
-needed z = cubes z
-
-abbrev pub neededSlots : Sizes → ℕ
-neededSlots z = 7 * samples z
-
--- "cube words (u16) and a waiting list (u32), each at least as long as there are cubes; edge slots (u32), at least 7 × samples"
-unfoldable pub roomy : Sizes → ℕ → ℕ → ℕ → Bool
-roomy z words waiting slots = leb (needed z) words && leb (needed z) waiting && leb (neededSlots z) slots
+-- 1 to 3: "an axis is outside 2..64", "the sample count is not nx·ny·nz", "a work slice is too short"
+unfoldable pub shapeTests : Lattice → Lengths → List Test
+shapeTests L n =
+    test 1 (axes (L .size))
+    ∷ test 2 (eqb (length (L .values)) (samples (L .size)))
+    ∷ test 3 (roomy (L .size) n)
+    ∷ []
 
 -- 4: "the named start is not a cube of the lattice"
 abbrev pub named : Sizes → Start → Bool
 named z Unnamed = true
 named z (Cube p) = inLattice z p
 
--- the start cube: "If the caller names no start, the start is the crossed cube of lowest number"
+-- the start cube
 abbrev pub startOf : Lattice → Start → ℕ
-startOf L Unnamed = lowest L
+startOf L Unnamed = lowest (L .size) (mayStart L)
 startOf L (Cube p) = cubeNo (L .size) p
 
 -- 5: "the start is not crossed, or none was named and no cube is crossed"
 abbrev pub starts : Lattice → Start → Bool
-starts L Unnamed = any (crossed L) (range 0 (cubes (L .size)))
+starts L Unnamed = any (mayStart L) (range 0 (cubes (L .size)))
 starts L (Cube p) = crossed L (cubeNo (L .size) p)
 
--- "Checking: 1 to 5 on the samples", as building; words, waiting and slots are the lengths of the work slices
-unfoldable pub sampleTests : Lattice → Start → ℕ → ℕ → ℕ → List Test
-sampleTests L s words waiting slots =
-    test 1 (axes (L .size))
-    ∷ test 2 (eqb (length (L .values)) (samples (L .size)))
-    ∷ test 3 (roomy (L .size) words waiting slots)
-    ∷ test 4 (named (L .size) s)
-    ∷ test 5 (starts L s)
-    ∷ []
+unfoldable pub startTests : Lattice → Start → List Test
+startTests L s = test 4 (named (L .size) s) ∷ test 5 (starts L s) ∷ []
 
--- 6 and 7: "the sheet has more vertices than room", "the sheet has more triangles than room": nv and nt are their numbers
-unfoldable pub roomTests : ℕ → ℕ → ℕ → ℕ → List Test
-roomTests nv nt vertices triangles = test 6 (leb nv vertices) ∷ test 7 (leb nt triangles) ∷ []
+-- "Checking: 1 to 5 on the samples", as building
+unfoldable pub sampleTests : Lattice → Start → Lengths → List Test
+sampleTests L s n = shapeTests L n ++ startTests L s
 
 -- "Building: 1 to 7."
 unfoldable pub buildNumber : Lattice → Start → Lent → ℕ
 buildNumber L s l =
     let S = sheetOf L (startOf L s) in
     judge
-    (sampleTests L s (length (l .words)) (length (l .waiting)) (length (l .slots))
+    (sampleTests L s (lengths (l .work))
     ++ roomTests (length (S .edges)) (length (S .triangles)) (vertexRoom (l .vertices)) (triangleRoom (l .triangles)))
     .number
 
@@ -99,27 +81,13 @@ built L s l =
     let n = buildNumber L s l in
     cond (counts n) (counted n (sheetOf L (startOf L s))) (uncounted n)
 
--- "After a success, or refusals 6, 7 (building), 17, 18, 19, the needed front of each work slice is all 0 and the rest is
--- untouched.", "those not named under Lent room leave work room untouched"
-abbrev pub clears : ℕ → Bool
-clears n = isIn (0 ∷ 6 ∷ 7 ∷ 17 ∷ 18 ∷ 19 ∷ []) n
+-- what a build leaves in what it was lent, by its number and its sheet
+abbrev pub leftAt : ℕ → Sheet → Sizes → Lent → Lent
+leftAt n S z l =
+    lent (outputAfter n (vertexWords S) (l .vertices)) (outputAfter n (triangleWords S) (l .triangles)) (workAfter n z (l .work))
 
--- a work slice after an answer; n of it are needed
-unfoldable pub workAfter : ℕ → ℕ → List ℕ → List ℕ
-workAfter number n old = cond (clears number) (cleared n old) old
-
--- "No refusal writes to output", "Output beyond what is written never changes."
-unfoldable pub outputAfter : {A : Type 0} → ℕ → List A → List A → List A
-outputAfter number new old = cond (eqb number 0) (over new old) old
-
--- what a build leaves in what it was lent
 unfoldable pub lentAfter : Lattice → Start → Lent → Lent
-lentAfter L s l =
-    let n = buildNumber L s l in
-    let S = sheetOf L (startOf L s) in
-    lent (outputAfter n (vertexWords L S) (l .vertices)) (outputAfter n (triangleWords S) (l .triangles))
-    (workAfter n (needed (L .size)) (l .words)) (workAfter n (needed (L .size)) (l .waiting))
-    (workAfter n (neededSlots (L .size)) (l .slots))
+lentAfter L s l = leftAt (buildNumber L s l) (sheetOf L (startOf L s)) (L .size) l
 
 -- the contract of a build: its answer, and what it leaves
 pub record Builds (L : Lattice) (s : Start) (before : Lent) (r : Built) (after : Lent) : Type 0 where

@@ -6,15 +6,16 @@ use Prim.Native.Nat.{ℕ, _+_, _*_}
 use lib.IntN.{ℤ, pos, negsuc, natAbs}
 use lib.Dec.{eqb}
 use lib.ListN.{length, getD, take, drop}
-use Rattle.lists.specs.Lists.{range, any, first}
+use Rattle.lists.specs.Lists.{range, any, all, first}
 use Rattle.paper.specs.declared.Sizes.{Sizes}
 use Rattle.paper.specs.declared.Start.{Start}
 use Rattle.paper.specs.declared.Verdict.{Verdict}
 use Rattle.paper.specs.Lattice.{Lattice}
 use Rattle.paper.specs.Tables.{Tri, tri}
-use Rattle.paper.specs.Sheet.{Sheet, sheetOf, vertexRecord}
+use Rattle.paper.specs.Sheet.{Sheet, sheetOf, fileRecordLength, inFile}
 use Rattle.paper.specs.Tests.{Test, test, testAt, judge}
-use Rattle.paper.specs.Build.{startOf, sampleTests, needed, neededSlots, workAfter}
+use Rattle.paper.specs.Room.{Work, Lengths, lengths, workAfter}
+use Rattle.paper.specs.Build.{startOf, sampleTests}
 use Rattle.paper.specs.File.{fileV, fileT, fileSizes, fileVertices, fileTriangles, fileTests}
 
 abbrev pub sameNumber : ℤ → ℤ → Bool
@@ -40,17 +41,17 @@ unfoldable pub turned : Tri → Tri → Bool
 turned t u =
     sameTriangle t u || sameTriangle (tri (t .b) (t .c) (t .a)) u || sameTriangle (tri (t .c) (t .a) (t .b)) u
 
--- vs are the numbers of a file's records: the four of record i, and its edge
+-- vs are the numbers of a file's records: those of record i, and its edge
 unfoldable pub recordOf : List ℤ → ℕ → List ℤ
-recordOf vs i = take 4 (drop (4 * i) vs)
+recordOf vs i = take fileRecordLength (drop (fileRecordLength * i) vs)
 
 unfoldable pub edgeOf : List ℤ → ℕ → ℤ
-edgeOf vs i = getD vs (4 * i) (pos 0)
+edgeOf vs i = getD vs (fileRecordLength * i) (pos 0)
 
 -- 17: "a vertex record's edge is no vertex of the sheet, its position is wrong, or an earlier record has that edge"
-unfoldable pub badRecord : Lattice → Sheet → List ℤ → ℕ → Bool
-badRecord L S vs i =
-    not (any (λ e. sameNumbers (recordOf vs i) (vertexRecord L e)) (S .edges))
+unfoldable pub badRecord : Sheet → List ℤ → ℕ → Bool
+badRecord S vs i =
+    not (any (λ r. sameNumbers (recordOf vs i) (inFile r)) (S .records))
     || any (λ j. sameNumber (edgeOf vs j) (edgeOf vs i)) (range 0 i)
 
 -- ts are the numbers of its triangles: the edge of the vertex at a number of it (where 17 has passed, none is below 0)
@@ -70,43 +71,34 @@ badNaming S vs ts i =
 -- 19: "a vertex or triangle of the sheet is absent", of nv records and nt triangles
 unfoldable pub complete : Sheet → List ℤ → List ℕ → ℕ → ℕ → Bool
 complete S vs ts nv nt =
-    not (any (λ e. not (any (λ i. sameNumber (edgeOf vs i) (pos e)) (range 0 nv))) (S .edges))
-    && not (any (λ t. not (any (λ i. turned t (triangleOf vs ts i)) (range 0 nt))) (S .byEdge))
+    all (λ e. any (λ i. sameNumber (edgeOf vs i) (pos e)) (range 0 nv)) (S .edges)
+    && all (λ t. any (λ i. turned t (triangleOf vs ts i)) (range 0 nt)) (S .byEdge)
 
--- "then 16 to 19"
-unfoldable pub sheetTests : Lattice → Sheet → List ℕ → List Test
-sheetTests L S bs =
+-- "then 16 to 19": of a file against a sheet of a lattice of these sizes
+unfoldable pub sheetTests : Sizes → Sheet → List ℕ → List Test
+sheetTests z S bs =
     let nv = fileV bs in
     let nt = fileT bs in
     let vs = fileVertices bs in
     let ts = fileTriangles bs in
-    let i = first (badRecord L S vs) nv (range 0 nv) in
+    let i = first (badRecord S vs) nv (range 0 nv) in
     let j = first (badNaming S vs ts) nt (range 0 nt) in
-    test 16 (sameSizes (fileSizes bs) (L .size))
+    test 16 (sameSizes (fileSizes bs) z)
     ∷ testAt 17 i (eqb i nv)
     ∷ testAt 18 j (eqb j nt)
     ∷ test 19 (complete S vs ts nv nt)
     ∷ []
 
 -- "Checking: 1 to 5 on the samples, then 11, 12, 1, 14, 15 on the file, then 16 to 19.", "Checking returns the number and a
--- place, nothing else."; words, waiting and slots are the lengths of the work slices
-unfoldable pub checked : Lattice → Start → List ℕ → ℕ → ℕ → ℕ → Verdict
-checked L s bs words waiting slots =
-    judge (sampleTests L s words waiting slots ++ fileTests bs ++ sheetTests L (sheetOf L (startOf L s)) bs)
+-- place, nothing else."
+unfoldable pub checked : Lattice → Start → List ℕ → Lengths → Verdict
+checked L s bs n = judge (sampleTests L s n ++ fileTests bs ++ sheetTests (L .size) (sheetOf L (startOf L s)) bs)
 
--- the three work slices
-pub record Work : Type 0 where
-  pub words : List ℕ
-  pub waiting : List ℕ
-  pub slots : List ℕ
+-- what a check leaves in the work room
+unfoldable pub checkedAfter : Lattice → Start → List ℕ → Work → Work
+checkedAfter L s bs w = workAfter (checked L s bs (lengths w) .number) (L .size) w
 
-abbrev pub work : List ℕ → List ℕ → List ℕ → Work
-work cw wl es = record { words = cw; waiting = wl; slots = es }
-
--- the contract of a checker: its answer, and what it leaves in the work slices
+-- the contract of a checker: its answer, and what it leaves
 pub record Checks (L : Lattice) (s : Start) (bs : List ℕ) (before : Work) (r : Verdict) (after : Work) : Type 0 where
-  pub answer : r ≡ checked L s bs (length (before .words)) (length (before .waiting)) (length (before .slots))
-  pub left :
-      after
-      ≡ work (workAfter (r .number) (needed (L .size)) (before .words)) (workAfter (r .number) (needed (L .size)) (before .waiting))
-      (workAfter (r .number) (neededSlots (L .size)) (before .slots))
+  pub answer : r ≡ checked L s bs (lengths before)
+  pub left : after ≡ checkedAfter L s bs before

@@ -13,8 +13,9 @@ use Rattle.paper.specs.declared.Verdict.{Verdict}
 use Rattle.paper.specs.declared.Wrote.{Wrote}
 use Rattle.paper.specs.declared.Got.{Got}
 use Rattle.paper.specs.Lattice.{axes}
+use Rattle.paper.specs.Sheet.{recordLength, fileRecordLength}
 use Rattle.paper.specs.Tests.{Test, test, testAt, judge}
-use Rattle.paper.specs.Build.{vertexRoom, triangleRoom, roomTests, outputAfter}
+use Rattle.paper.specs.Room.{vertexRoom, triangleRoom, roomTests, outputAfter}
 
 -- a signed 32-bit number as bits, and bits as one
 unfoldable pub bits32 : ℤ → ℕ
@@ -32,13 +33,20 @@ pub record Content : Type 0 where
   pub vertexWords : List ℤ
   pub triangleWords : List ℕ
 
--- the counts and sizes, with the first V records and T triangles of two slices
+-- the numbers of the first V records of a slice, as a file has them, and of its first T triangles
+abbrev pub fileWords : ℕ → List ℤ → List ℤ
+fileWords nv vs = take (recordLength * nv) vs
+
+abbrev pub fileIndices : ℕ → List ℕ → List ℕ
+fileIndices nt ts = take (3 * nt) ts
+
+-- the counts and sizes, with these numbers of two slices
 abbrev pub contentOf : Sizes → ℕ → ℕ → List ℤ → List ℕ → Content
 contentOf z nv nt vs ts =
-    record { sizes = z; vertices = nv; triangles = nt; vertexWords = take (4 * nv) vs; triangleWords = take (3 * nt) ts }
+    record { sizes = z; vertices = nv; triangles = nt; vertexWords = fileWords nv vs; triangleWords = fileIndices nt ts }
 
 -- "V vertex records of 16 bytes, T triangles of 12 bytes, then a 24-byte trailer"
-unfoldable pub trailerAt : ℕ → ℕ → ℕ
+abbrev pub trailerAt : ℕ → ℕ → ℕ
 trailerAt nv nt = 16 * nv + 12 * nt
 
 unfoldable pub fileLength : ℕ → ℕ → ℕ
@@ -48,7 +56,7 @@ fileLength nv nt = trailerAt nv nt + 24
 -- 21,331 as four u16"
 unfoldable pub trailerBytes : Sizes → ℕ → ℕ → List ℕ
 trailerBytes z nv nt =
-    le 4 (16 * nv + 12 * nt)
+    le 4 (trailerAt nv nt)
     ++ le 4 nv
     ++ le 4 (12 * nt)
     ++ le 4 nt
@@ -96,10 +104,15 @@ wrote z nv nt vs ts room =
     let v = writeVerdict z nv nt vs ts room in
     record { number = v .number; place = v .place; bytes = cond (eqb (v .number) 0) (fileLength nv nt) 0 }
 
+-- what a writer leaves in the lent bytes
+abbrev pub bytesAfter : Sizes → ℕ → ℕ → List ℤ → List ℕ → List ℕ → List ℕ
+bytesAfter z nv nt vs ts before =
+    outputAfter (writeVerdict z nv nt vs ts (length before) .number) (fileBytes (contentOf z nv nt vs ts)) before
+
 -- the contract of a writer: its answer, and the bytes it leaves
 pub record Writes (z : Sizes) (nv nt : ℕ) (vs : List ℤ) (ts : List ℕ) (before : List ℕ) (r : Wrote) (after : List ℕ) : Type 0 where
   pub answer : r ≡ wrote z nv nt vs ts (length before)
-  pub left : after ≡ outputAfter (writeVerdict z nv nt vs ts (length before) .number) (fileBytes (contentOf z nv nt vs ts)) before
+  pub left : after ≡ bytesAfter z nv nt vs ts before
 
 -- a trailer "that points back from its own first byte": its k-byte number at a place
 unfoldable pub trailer : ℕ → List ℕ → ℕ → ℕ
@@ -116,7 +129,7 @@ fileSizes bs = record { nx = trailer 2 bs 16; ny = trailer 2 bs 18; nz = trailer
 
 -- the numbers of the records, and of the triangles
 unfoldable pub fileVertices : List ℕ → List ℤ
-fileVertices bs = map (λ i. signed32 (field 4 bs (4 * i))) (range 0 (4 * fileV bs))
+fileVertices bs = map (λ i. signed32 (field 4 bs (4 * i))) (range 0 (fileRecordLength * fileV bs))
 
 unfoldable pub fileTriangles : List ℕ → List ℕ
 fileTriangles bs = map (λ i. field 4 bs (16 * fileV bs + 4 * i)) (range 0 (3 * fileT bs))
@@ -125,7 +138,7 @@ fileTriangles bs = map (λ i. field 4 bs (16 * fileV bs + 4 * i)) (range 0 (3 * 
 unfoldable pub laidOut : List ℕ → Bool
 laidOut bs =
     limits (fileV bs) (fileT bs)
-    && eqb (trailer 4 bs 0) (16 * fileV bs + 12 * fileT bs)
+    && eqb (trailer 4 bs 0) (trailerAt (fileV bs) (fileT bs))
     && eqb (trailer 4 bs 8) (12 * fileT bs)
     && eqb (length bs) (fileLength (fileV bs) (fileT bs))
 
@@ -152,8 +165,15 @@ got bs vs ts =
     (record { number = 0; place = 0; vertices = fileV bs; triangles = fileT bs; sizes = fileSizes bs })
     (record { number = v .number; place = v .place; vertices = 0; triangles = 0; sizes = record { nx = 0; ny = 0; nz = 0 } })
 
--- the contract of a reader: its answer, and what it leaves in the two slices
+-- what a reader leaves in the two lent slices
+abbrev pub verticesAfter : List ℕ → List ℤ → List ℕ → List ℤ
+verticesAfter bs vs ts = outputAfter (readVerdict bs vs ts .number) (fileVertices bs) vs
+
+abbrev pub trianglesAfter : List ℕ → List ℤ → List ℕ → List ℕ
+trianglesAfter bs vs ts = outputAfter (readVerdict bs vs ts .number) (fileTriangles bs) ts
+
+-- the contract of a reader: its answer, and what it leaves
 pub record Reads (bs : List ℕ) (vs : List ℤ) (ts : List ℕ) (r : Got) (vs′ : List ℤ) (ts′ : List ℕ) : Type 0 where
   pub answer : r ≡ got bs vs ts
-  pub vertices : vs′ ≡ outputAfter (readVerdict bs vs ts .number) (fileVertices bs) vs
-  pub triangles : ts′ ≡ outputAfter (readVerdict bs vs ts .number) (fileTriangles bs) ts
+  pub vertices : vs′ ≡ verticesAfter bs vs ts
+  pub triangles : ts′ ≡ trianglesAfter bs vs ts

@@ -100,13 +100,17 @@ mixed l = any (λ b. b) l && not (all (λ b. b) l)
 unfoldable pub mixedAt : Lattice → Place → List ℕ → Bool
 mixedAt L p cs = mixed (map (λ c. airAt L (corner p c)) cs)
 
--- "A cube is crossed if its eight corners are not all on one side."
-unfoldable pub crossed : Lattice → ℕ → Bool
-crossed L k = mixedAt L (cubeAt (L .size) k) (range 0 8)
-
 -- "No cube outside the lattice exists."
 unfoldable pub inLattice : Sizes → Place → Bool
 inLattice z p = ltb (p .x + 1) (z .nx) && ltb (p .y + 1) (z .ny) && ltb (p .z + 1) (z .nz)
+
+-- the cubes that may be visited: all of the lattice
+unfoldable pub visitable : Lattice → Place → Bool
+visitable L p = inLattice (L .size) p
+
+-- "A cube is crossed if its eight corners are not all on one side."
+unfoldable pub crossed : Lattice → ℕ → Bool
+crossed L k = let p = cubeAt (L .size) k in visitable L p && mixedAt L p (range 0 8)
 
 -- a face of a cube: its corners, whether there is a place beyond it, and the cube there
 pub record Face : Type 0 where
@@ -135,7 +139,7 @@ faceAt p i = getD (faces p) i (face [] false p)
 -- "steps into a neighbour across a shared face whose four corners are not all on one side"
 unfoldable pub stepOver : Lattice → Place → Face → List ℕ
 stepOver L p f =
-    consIf (f .there && inLattice (L .size) (f .beyond) && mixedAt L p (f .corners)) (cubeNo (L .size) (f .beyond)) []
+    consIf (f .there && visitable L (f .beyond) && mixedAt L p (f .corners)) (cubeNo (L .size) (f .beyond)) []
 
 unfoldable pub steps : Lattice → ℕ → List ℕ
 steps L k = let p = cubeAt (L .size) k in each (stepOver L p) (faces p)
@@ -148,6 +152,10 @@ Visited L start = Reach (steps L) start
 unfoldable pub visited : Lattice → ℕ → List ℕ
 visited L start = reached (steps L) (cubes (L .size)) start
 
--- "the crossed cube of lowest number, sought by x within y within z", or the number of cubes where none is crossed
-unfoldable pub lowest : Lattice → ℕ
-lowest L = first (crossed L) (cubes (L .size)) (range 0 (cubes (L .size)))
+-- the cube of lowest number that passes a test, "sought by x within y within z", or the number of cubes where none does
+unfoldable pub lowest : Sizes → (ℕ → Bool) → ℕ
+lowest z p = first p (cubes z) (range 0 (cubes z))
+
+-- "If the caller names no start, the start is the crossed cube of lowest number": the cubes that may then be the start
+abbrev pub mayStart : Lattice → ℕ → Bool
+mayStart L k = crossed L k

@@ -11,25 +11,38 @@ use Rattle.paper.specs.declared.Place.{Place}
 use Rattle.paper.specs.Lattice.{Lattice, samples, sampleNo, sampleAt, valueAt, airAt, corner, cubeAt, visited}
 use Rattle.paper.specs.Tables.{Ends, Tet, Tri, ends, tri, tets, rows, tetEdges, kinds, low, kindOf}
 
--- "The edge's number is 7 × anchor's number + kind.": of the edge between two corners of the cube at p
+-- ── edges ──
+
+-- "The edge's number is 7 × anchor's number + kind."
+abbrev pub edgeFrom : ℕ → ℕ → ℕ
+edgeFrom anchor kind = 7 * anchor + kind
+
+-- of the edge between two corners of the cube at p
 unfoldable pub edgeNo : Sizes → Place → Ends → ℕ
-edgeNo z p e = 7 * sampleNo z (corner p (low e)) + kindOf e
+edgeNo z p e = edgeFrom (sampleNo z (corner p (low e))) (kindOf e)
 
--- "whose ends are on different sides"
-unfoldable pub split : Lattice → Place → Ends → Bool
-split L p e = xor (airAt L (corner p (e .a))) (airAt L (corner p (e .b)))
+-- how many edge numbers a lattice has
+abbrev pub edgeNumbers : Sizes → ℕ
+edgeNumbers z = 7 * samples z
 
--- "Every edge of a visited cube's tetrahedra whose ends are on different sides": those of one cube
-unfoldable pub cubeEdges : Lattice → ℕ → List ℕ
-cubeEdges L k =
-    let p = cubeAt (L .size) k in
-    each (λ t. map (edgeNo (L .size) p) (keep (split L p) (tetEdges t))) tets
+-- the anchor of the edge with a number, its kind, and the ends of a kind as corners from the anchor
+unfoldable pub anchorOf : Sizes → ℕ → Place
+anchorOf z e = sampleAt z (e / 7)
 
--- ".. has one vertex. Vertices are listed by rising edge number": their edges
-unfoldable pub vertexEdges : Lattice → List ℕ → List ℕ
-vertexEdges L vs =
-    let marked = each (cubeEdges L) vs in
-    keep (isIn marked) (range 0 (7 * samples (L .size)))
+abbrev pub kindIn : ℕ → ℕ
+kindIn e = e % 7
+
+unfoldable pub endsOf : ℕ → Ends
+endsOf k = getD kinds k (ends 0 0)
+
+-- the samples at its ends
+unfoldable pub firstEnd : Sizes → ℕ → Place
+firstEnd z e = corner (anchorOf z e) (endsOf (kindIn e) .a)
+
+unfoldable pub secondEnd : Sizes → ℕ → Place
+secondEnd z e = corner (anchorOf z e) (endsOf (kindIn e) .b)
+
+-- ── vertices ──
 
 -- "t is 65,536 × (−p) divided by (q − p), rounded down", p of the solid end and q of the air end
 unfoldable pub crossing : ℤ → ℤ → ℕ
@@ -51,15 +64,31 @@ recordAt L e s a =
 
 unfoldable pub vertexRecord : Lattice → ℕ → List ℤ
 vertexRecord L e =
-    let anchor = sampleAt (L .size) (e / 7) in
-    let k = getD kinds (e % 7) (ends 0 0) in
-    let u = corner anchor (k .a) in
-    let v = corner anchor (k .b) in
+    let u = firstEnd (L .size) e in
+    let v = secondEnd (L .size) e in
     cond (airAt L u) (recordAt L e v u) (recordAt L e u v)
 
--- how many numbers a vertex record has
+-- how many numbers a vertex record has, in memory and in a file, and what of it goes into a file
 abbrev pub recordLength : ℕ
 recordLength = 4
+
+abbrev pub fileRecordLength : ℕ
+fileRecordLength = 4
+
+abbrev pub inFile : List ℤ → List ℤ
+inFile r = r
+
+-- ── six tetrahedra to a cube ──
+
+-- "whose ends are on different sides"
+unfoldable pub split : Lattice → Place → Ends → Bool
+split L p e = xor (airAt L (corner p (e .a))) (airAt L (corner p (e .b)))
+
+-- "Every edge of a visited cube's tetrahedra whose ends are on different sides": those of one cube
+unfoldable pub cubeEdges : Lattice → ℕ → List ℕ
+cubeEdges L k =
+    let p = cubeAt (L .size) k in
+    each (λ t. map (edgeNo (L .size) p) (keep (split L p) (tetEdges t))) tets
 
 abbrev pub weight : Bool → ℕ → ℕ
 weight true n = n
@@ -69,9 +98,9 @@ weight false n = 0
 unfoldable pub rowOf : Bool → Bool → Bool → Bool → ℕ
 rowOf a b c d = weight a 8 + weight b 4 + weight c 2 + weight d 1
 
-unfoldable pub rowAt : Lattice → Place → Tet → ℕ
-rowAt L p t =
-    rowOf (airAt L (corner p (t .a))) (airAt L (corner p (t .b))) (airAt L (corner p (t .c))) (airAt L (corner p (t .d)))
+-- of a tetrahedron of the cube at p, where `air` has the side of each sample
+unfoldable pub rowAt : (Place → Bool) → Place → Tet → ℕ
+rowAt air p t = rowOf (air (corner p (t .a))) (air (corner p (t .b))) (air (corner p (t .c))) (air (corner p (t .d)))
 
 -- the edge e1 to e6 of a tetrahedron of the cube at p
 unfoldable pub tetEdge : Sizes → Place → Tet → ℕ → ℕ
@@ -81,34 +110,56 @@ tetEdge z p t i = edgeNo z p (getD (tetEdges t) (i - 1) (ends 0 0))
 unfoldable pub triEdges : Sizes → Place → Tet → Tri → Tri
 triEdges z p t r = tri (tetEdge z p t (r .a)) (tetEdge z p t (r .b)) (tetEdge z p t (r .c))
 
--- "then tetrahedron 1 to 6, then as in the row": a cube's triangles, by lattice edges
+-- "then tetrahedron 1 to 6, then as in the row": the triangles of the cube at p, by lattice edges
+unfoldable pub trianglesAt : Sizes → (Place → Bool) → Place → List Tri
+trianglesAt z air p = each (λ t. map (triEdges z p t) (getD rows (rowAt air p t) [])) tets
+
 unfoldable pub cubeTriangles : Lattice → ℕ → List Tri
-cubeTriangles L k =
-    let p = cubeAt (L .size) k in
-    each (λ t. map (triEdges (L .size) p t) (getD rows (rowAt L p t) [])) tets
+cubeTriangles L k = trianglesAt (L .size) (airAt L) (cubeAt (L .size) k)
+
+-- ── the sheet ──
+
+-- how a cube is cut: the edges of it that have a vertex, and its triangles by lattice edges
+pub record Cut : Type 0 where
+  pub edges : Lattice → ℕ → List ℕ
+  pub triangles : Lattice → ℕ → List Tri
+
+abbrev pub tetrahedra : Cut
+tetrahedra = record { edges = cubeEdges; triangles = cubeTriangles }
+
+-- "Every edge .. has one vertex. Vertices are listed by rising edge number": their edges, of the cubes of a list
+unfoldable pub vertexEdges : Cut → Lattice → List ℕ → List ℕ
+vertexEdges C L ks =
+    let marked = each (C .edges L) ks in
+    keep (isIn marked) (range 0 (edgeNumbers (L .size)))
 
 -- ".. and hold vertex numbers", "numbered from 0": a triangle by the places of its edges in the vertex list
 unfoldable pub numbered : List ℕ → Tri → Tri
 numbered es t = tri (rank es (t .a)) (rank es (t .b)) (rank es (t .c))
 
--- a sheet: the vertices' edges, the triangles by lattice edges and by vertices, and the number of visited cubes
+-- a sheet: the vertices' edges and records, the triangles by lattice edges and by vertices, and the number of visited cubes
 pub record Sheet : Type 0 where
   pub edges : List ℕ
+  pub records : List (List ℤ)
   pub byEdge : List Tri
   pub triangles : List Tri
   pub visits : ℕ
 
 -- "Triangles are listed by rising cube number"
+unfoldable pub sheetBy : Cut → Lattice → ℕ → Sheet
+sheetBy C L start =
+    let ks = visited L start in
+    let es = vertexEdges C L ks in
+    let ts = each (C .triangles L) ks in
+    record { edges = es; records = map (vertexRecord L) es; byEdge = ts; triangles = map (numbered es) ts; visits = length ks }
+
+-- document 01's sheet
 unfoldable pub sheetOf : Lattice → ℕ → Sheet
-sheetOf L start =
-    let vs = visited L start in
-    let es = vertexEdges L vs in
-    let ts = each (cubeTriangles L) vs in
-    record { edges = es; byEdge = ts; triangles = map (numbered es) ts; visits = length vs }
+sheetOf L start = sheetBy tetrahedra L start
 
 -- the numbers of the vertex records, one behind the other, and those of the triangles
-unfoldable pub vertexWords : Lattice → Sheet → List ℤ
-vertexWords L S = each (vertexRecord L) (S .edges)
+unfoldable pub vertexWords : Sheet → List ℤ
+vertexWords S = each (λ r. r) (S .records)
 
 abbrev pub corners3 : Tri → List ℕ
 corners3 t = t .a ∷ t .b ∷ t .c ∷ []

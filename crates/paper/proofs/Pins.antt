@@ -1,0 +1,139 @@
+-- Further rows, which the sheets marked P leave open: each refuses a single change of a definition that the others let pass. One table
+-- with one theorem, by computation. Assumes nothing.
+use mathlib.Core.Path.{_≡_, refl}
+use mathlib.Core.List.{List, [], _∷_, _++_, map}
+use lib.IntN.{pos, negsuc}
+use lib.ListN.{set, replicate, take, drop}
+use Rattle.paper.specs.declared.Start.the-variants.{Unnamed}
+use Rattle.paper.specs.File.{contentOf}
+use Rattle.paper.proofs.Cases.{Case, builds, lists, files, checks, checksFile, checksBytes, checksFrom, checkLeaves, checkFileLeaves, leaves, clears, limited, writes, writeLeaves, bytes, reads, readsFile, readLeaves, signs, rereads, Row, row-of, outcome, sizes, lat, at, works, numbers, o, a, first-air, rtn-air, middle-air, two-air, zero-solid, steep, far-air, five-air, split-air, uneven, full, clear-front, used, three-records, small-record, small-file}
+
+table : List Row
+table =
+    row-of (checks first-air (2 ∷ 0 ∷ 1 ∷ [])) (0 ∷ 0 ∷ [])
+    ∷ row-of (checks first-air (1 ∷ 0 ∷ 2 ∷ [])) (18 ∷ 0 ∷ [])
+    ∷ row-of (checks first-air (1 ∷ 2 ∷ 0 ∷ 1 ∷ 2 ∷ 0 ∷ [])) (18 ∷ 1 ∷ [])
+    ∷ row-of (checks first-air []) (19 ∷ 0 ∷ [])
+    -- every row and kind; 0 beside 1; a crossing that is no whole number of units; three axes that differ
+    ∷ row-of (lists rtn-air Unnamed) (6 ∷ 32768 ∷ 32768 ∷ 32768 ∷ 8 ∷ 65536 ∷ 32768 ∷ 0 ∷ 10 ∷ 65536 ∷ 32768 ∷ 32768 ∷ 14 ∷ 32768 ∷ 65536 ∷ 0 ∷ 18 ∷ 32768 ∷ 65536 ∷ 32768 ∷ 23 ∷ 65536 ∷ 65536 ∷ 32768 ∷ 3 ∷ 1 ∷ 0 ∷ 3 ∷ 0 ∷ 4 ∷ 1 ∷ 2 ∷ 0 ∷ 0 ∷ 2 ∷ 4 ∷ 4 ∷ 2 ∷ 5 ∷ [])
+    ∷ row-of (lists zero-solid Unnamed) (0 ∷ 0 ∷ 0 ∷ 0 ∷ 4 ∷ 0 ∷ 0 ∷ 65536 ∷ 5 ∷ 0 ∷ 65536 ∷ 0 ∷ 8 ∷ 65536 ∷ 65536 ∷ 0 ∷ 9 ∷ 65536 ∷ 0 ∷ 65536 ∷ 0 ∷ 1 ∷ 2 ∷ 2 ∷ 1 ∷ 3 ∷ 3 ∷ 1 ∷ 4 ∷ [])
+    ∷ row-of (lists steep Unnamed) (0 ∷ 21846 ∷ 0 ∷ 0 ∷ 1 ∷ 0 ∷ 21846 ∷ 0 ∷ 2 ∷ 0 ∷ 0 ∷ 21846 ∷ 1 ∷ 2 ∷ 0 ∷ [])
+    ∷ row-of (lists far-air Unnamed) (9 ∷ 65536 ∷ 0 ∷ 32768 ∷ 10 ∷ 65536 ∷ 32768 ∷ 32768 ∷ 23 ∷ 65536 ∷ 65536 ∷ 32768 ∷ 28 ∷ 32768 ∷ 0 ∷ 65536 ∷ 33 ∷ 32768 ∷ 32768 ∷ 65536 ∷ 42 ∷ 32768 ∷ 65536 ∷ 65536 ∷ 0 ∷ 3 ∷ 1 ∷ 3 ∷ 4 ∷ 1 ∷ 1 ∷ 4 ∷ 5 ∷ 1 ∷ 5 ∷ 2 ∷ [])
+    ∷ row-of (lists five-air Unnamed) (0 ∷ 32768 ∷ 0 ∷ 0 ∷ 4 ∷ 32768 ∷ 0 ∷ 32768 ∷ 5 ∷ 32768 ∷ 32768 ∷ 0 ∷ 6 ∷ 32768 ∷ 32768 ∷ 32768 ∷ 9 ∷ 65536 ∷ 0 ∷ 32768 ∷ 10 ∷ 65536 ∷ 32768 ∷ 32768 ∷ 14 ∷ 32768 ∷ 65536 ∷ 0 ∷ 18 ∷ 32768 ∷ 65536 ∷ 32768 ∷ 36 ∷ 65536 ∷ 32768 ∷ 65536 ∷ 42 ∷ 32768 ∷ 65536 ∷ 65536 ∷ 1 ∷ 0 ∷ 2 ∷ 6 ∷ 3 ∷ 1 ∷ 6 ∷ 1 ∷ 2 ∷ 6 ∷ 7 ∷ 3 ∷ 5 ∷ 4 ∷ 1 ∷ 5 ∷ 1 ∷ 3 ∷ 3 ∷ 7 ∷ 5 ∷ 5 ∷ 7 ∷ 9 ∷ 5 ∷ 9 ∷ 8 ∷ [])
+    ∷ row-of (lists split-air Unnamed) (1 ∷ 0 ∷ 32768 ∷ 0 ∷ 3 ∷ 0 ∷ 32768 ∷ 32768 ∷ 5 ∷ 32768 ∷ 32768 ∷ 0 ∷ 9 ∷ 65536 ∷ 0 ∷ 32768 ∷ 10 ∷ 65536 ∷ 32768 ∷ 32768 ∷ 14 ∷ 32768 ∷ 65536 ∷ 0 ∷ 18 ∷ 32768 ∷ 65536 ∷ 32768 ∷ 28 ∷ 32768 ∷ 0 ∷ 65536 ∷ 29 ∷ 0 ∷ 32768 ∷ 65536 ∷ 36 ∷ 65536 ∷ 32768 ∷ 65536 ∷ 42 ∷ 32768 ∷ 65536 ∷ 65536 ∷ 0 ∷ 1 ∷ 2 ∷ 5 ∷ 2 ∷ 1 ∷ 5 ∷ 1 ∷ 8 ∷ 5 ∷ 8 ∷ 6 ∷ 3 ∷ 4 ∷ 7 ∷ 4 ∷ 6 ∷ 8 ∷ 4 ∷ 8 ∷ 7 ∷ 6 ∷ 4 ∷ 9 ∷ 6 ∷ 9 ∷ 10 ∷ [])
+    ∷ row-of (lists uneven Unnamed) (7 ∷ 98304 ∷ 0 ∷ 0 ∷ 11 ∷ 98304 ∷ 0 ∷ 32768 ∷ 12 ∷ 98304 ∷ 32768 ∷ 0 ∷ 15 ∷ 131072 ∷ 32768 ∷ 0 ∷ 16 ∷ 131072 ∷ 0 ∷ 32768 ∷ 0 ∷ 1 ∷ 2 ∷ 2 ∷ 1 ∷ 3 ∷ 3 ∷ 1 ∷ 4 ∷ [])
+    ∷ row-of (lists uneven (at 0 2 1)) (65 ∷ 0 ∷ 196608 ∷ 32768 ∷ 67 ∷ 32768 ∷ 196608 ∷ 32768 ∷ 127 ∷ 0 ∷ 163840 ∷ 65536 ∷ 129 ∷ 0 ∷ 163840 ∷ 98304 ∷ 131 ∷ 32768 ∷ 163840 ∷ 65536 ∷ 147 ∷ 16384 ∷ 196608 ∷ 65536 ∷ 149 ∷ 0 ∷ 196608 ∷ 98304 ∷ 1 ∷ 2 ∷ 0 ∷ 1 ∷ 4 ∷ 2 ∷ 1 ∷ 5 ∷ 4 ∷ 2 ∷ 4 ∷ 3 ∷ 5 ∷ 3 ∷ 4 ∷ 5 ∷ 6 ∷ 3 ∷ [])
+    ∷ row-of (lists uneven (at 1 2 1)) (163 ∷ 131072 ∷ 196608 ∷ 98304 ∷ 225 ∷ 131072 ∷ 163840 ∷ 131072 ∷ 238 ∷ 98304 ∷ 196608 ∷ 131072 ∷ 0 ∷ 1 ∷ 2 ∷ [])
+    -- steps: across a mixed face, and not across a face all solid or all air between crossed cubes
+    ∷ row-of (builds 100 100 (lat 3 3 2 (o ∷ a ∷ replicate 16 o)) Unnamed) (0 ∷ 6 ∷ 4 ∷ 2 ∷ [])
+    ∷ row-of (builds 100 100 (lat 3 2 2 (a ∷ o ∷ a ∷ replicate 9 o)) Unnamed) (0 ∷ 3 ∷ 1 ∷ 1 ∷ [])
+    ∷ row-of (builds 100 100 (lat 3 2 2 (o ∷ a ∷ o ∷ o ∷ a ∷ o ∷ o ∷ a ∷ o ∷ o ∷ a ∷ o ∷ [])) Unnamed) (0 ∷ 9 ∷ 8 ∷ 1 ∷ [])
+    ∷ row-of (builds 100 100 (lat 2 2 2 (replicate 8 a)) Unnamed) (5 ∷ 0 ∷ 0 ∷ 0 ∷ [])
+    -- room to the last vertex and triangle, and 6 before 7
+    ∷ row-of (builds 14 24 middle-air Unnamed) (0 ∷ 14 ∷ 24 ∷ 8 ∷ [])
+    ∷ row-of (builds 13 23 middle-air Unnamed) (6 ∷ 14 ∷ 24 ∷ 8 ∷ [])
+    -- axes and counts
+    ∷ row-of (builds 9 9 (lat 2 2 1 []) Unnamed) (1 ∷ 0 ∷ 0 ∷ 0 ∷ [])
+    ∷ row-of (builds 9 9 (lat 2 1 2 []) Unnamed) (1 ∷ 0 ∷ 0 ∷ 0 ∷ [])
+    ∷ row-of (builds 9 9 (lat 1 2 2 []) Unnamed) (1 ∷ 0 ∷ 0 ∷ 0 ∷ [])
+    ∷ row-of (builds 9 9 (lat 2 2 65 []) Unnamed) (1 ∷ 0 ∷ 0 ∷ 0 ∷ [])
+    ∷ row-of (builds 9 9 (lat 2 65 2 []) Unnamed) (1 ∷ 0 ∷ 0 ∷ 0 ∷ [])
+    ∷ row-of (builds 9 9 (lat 65 2 2 []) Unnamed) (1 ∷ 0 ∷ 0 ∷ 0 ∷ [])
+    ∷ row-of (builds 9 9 (lat 64 64 64 []) Unnamed) (2 ∷ 0 ∷ 0 ∷ 0 ∷ [])
+    ∷ row-of (builds 9 9 (lat 2 2 2 (replicate 7 a)) Unnamed) (2 ∷ 0 ∷ 0 ∷ 0 ∷ [])
+    ∷ row-of (builds 9 9 (lat 2 2 2 (replicate 9 a)) Unnamed) (2 ∷ 0 ∷ 0 ∷ 0 ∷ [])
+    -- what is left in the lent slices, and 3 before 4
+    ∷ row-of (leaves first-air Unnamed (used 13 4 2 2 57)) (0 ∷ 0 ∷ 49152 ∷ 0 ∷ 0 ∷ 1 ∷ 0 ∷ 49152 ∷ 0 ∷ 2 ∷ 0 ∷ 0 ∷ 49152 ∷ 9 ∷ 1 ∷ 2 ∷ 0 ∷ 8 ∷ 0 ∷ 5 ∷ 0 ∷ 6 ∷ replicate 56 0 ++ 7 ∷ [])
+    ∷ row-of (leaves first-air Unnamed (used 11 4 2 2 57)) (6 ∷ replicate 11 9 ++ replicate 4 8 ++ 0 ∷ 5 ∷ 0 ∷ 6 ∷ replicate 56 0 ++ 7 ∷ [])
+    ∷ row-of (leaves first-air Unnamed (used 12 2 2 2 57)) (7 ∷ replicate 12 9 ++ replicate 2 8 ++ 0 ∷ 5 ∷ 0 ∷ 6 ∷ replicate 56 0 ++ 7 ∷ [])
+    ∷ row-of (leaves first-air (at 1 0 0) (used 12 3 0 1 56)) (3 ∷ numbers (used 12 3 0 1 56))
+    ∷ row-of (leaves first-air (at 1 0 0) (used 12 3 1 0 56)) (3 ∷ numbers (used 12 3 1 0 56))
+    ∷ row-of (leaves first-air (at 1 0 0) (used 12 3 1 1 55)) (3 ∷ numbers (used 12 3 1 1 55))
+    ∷ row-of (leaves first-air (at 1 0 0) (used 12 3 1 1 56)) (4 ∷ numbers (used 12 3 1 1 56))
+    ∷ row-of clears (0 ∷ 6 ∷ 7 ∷ 17 ∷ 18 ∷ 19 ∷ [])
+    -- writing
+    ∷ row-of (writes (sizes 64 64 64) 3 1 (replicate 12 (pos 0)) (1 ∷ 2 ∷ 0 ∷ []) 84) (0 ∷ 0 ∷ 84 ∷ [])
+    ∷ row-of (writes (sizes 2 2 2) 3 1 (replicate 12 (pos 0)) (1 ∷ 2 ∷ 0 ∷ []) 83) (8 ∷ 0 ∷ 0 ∷ [])
+    ∷ row-of (writes (sizes 2 2 65) 3 1 (replicate 12 (pos 0)) (1 ∷ 2 ∷ 0 ∷ []) 84) (1 ∷ 0 ∷ 0 ∷ [])
+    ∷ row-of (writes (sizes 1 2 2) 3 1 (replicate 12 (pos 0)) (1 ∷ 2 ∷ 0 ∷ []) 84) (1 ∷ 0 ∷ 0 ∷ [])
+    ∷ row-of (writes (sizes 2 2 2) 4 1 (replicate 12 (pos 0)) (1 ∷ 3 ∷ 0 ∷ []) 0) (9 ∷ 0 ∷ 0 ∷ [])
+    ∷ row-of (writes (sizes 2 2 2) 3 2 (replicate 12 (pos 0)) (1 ∷ 3 ∷ 0 ∷ []) 0) (9 ∷ 0 ∷ 0 ∷ [])
+    ∷ row-of (writes (sizes 2 2 2) 3 2 (replicate 12 (pos 0)) (1 ∷ 2 ∷ 0 ∷ 0 ∷ 1 ∷ 3 ∷ []) 0) (15 ∷ 1 ∷ 0 ∷ [])
+    ∷ row-of (limited 2000000 4000000) (1 ∷ [])
+    ∷ row-of (limited 2000001 4000000) (0 ∷ [])
+    ∷ row-of (limited 2000000 4000001) (0 ∷ [])
+    -- bytes, and reading
+    ∷ row-of (bytes (contentOf (sizes 2 3 64) 1 1 (negsuc 1 ∷ pos 258 ∷ pos 0 ∷ negsuc 2147483647 ∷ []) (0 ∷ 4294967295 ∷ 65536 ∷ []))) (254 ∷ 255 ∷ 255 ∷ 255 ∷ 2 ∷ 1 ∷ 0 ∷ 0 ∷ 0 ∷ 0 ∷ 0 ∷ 0 ∷ 0 ∷ 0 ∷ 0 ∷ 128 ∷ 0 ∷ 0 ∷ 0 ∷ 0 ∷ 255 ∷ 255 ∷ 255 ∷ 255 ∷ 0 ∷ 0 ∷ 1 ∷ 0 ∷ 28 ∷ 0 ∷ 0 ∷ 0 ∷ 1 ∷ 0 ∷ 0 ∷ 0 ∷ 12 ∷ 0 ∷ 0 ∷ 0 ∷ 1 ∷ 0 ∷ 0 ∷ 0 ∷ 2 ∷ 0 ∷ 3 ∷ 0 ∷ 64 ∷ 0 ∷ 83 ∷ 83 ∷ [])
+    ∷ row-of (rereads first-air) (0 ∷ 49152 ∷ 0 ∷ 0 ∷ 1 ∷ 0 ∷ 49152 ∷ 0 ∷ 2 ∷ 0 ∷ 0 ∷ 49152 ∷ 1 ∷ 2 ∷ 0 ∷ [])
+    ∷ row-of (reads small-file (replicate 4 (pos 0)) (replicate 3 0)) (0 ∷ 0 ∷ 1 ∷ 1 ∷ 2 ∷ 3 ∷ 64 ∷ [])
+    ∷ row-of (reads small-file (replicate 3 (pos 0)) (replicate 3 0)) (6 ∷ 0 ∷ 0 ∷ 0 ∷ 0 ∷ 0 ∷ 0 ∷ [])
+    ∷ row-of (reads small-file (replicate 4 (pos 0)) (replicate 2 0)) (7 ∷ 0 ∷ 0 ∷ 0 ∷ 0 ∷ 0 ∷ 0 ∷ [])
+    ∷ row-of (reads (drop 1 small-file) (replicate 4 (pos 0)) (replicate 3 0)) (14 ∷ 0 ∷ 0 ∷ 0 ∷ 0 ∷ 0 ∷ 0 ∷ [])
+    ∷ row-of (reads (drop 29 small-file) (replicate 4 (pos 0)) (replicate 3 0)) (11 ∷ 0 ∷ 0 ∷ 0 ∷ 0 ∷ 0 ∷ 0 ∷ [])
+    ∷ row-of (reads (take 51 small-file) (replicate 4 (pos 0)) (replicate 3 0)) (12 ∷ 0 ∷ 0 ∷ 0 ∷ 0 ∷ 0 ∷ 0 ∷ [])
+    ∷ row-of (reads small-file (replicate 3 (pos 0)) (replicate 2 0)) (6 ∷ 0 ∷ 0 ∷ 0 ∷ 0 ∷ 0 ∷ 0 ∷ [])
+    ∷ row-of (reads (set small-file 28 29) (replicate 4 (pos 0)) (replicate 3 0)) (14 ∷ 0 ∷ 0 ∷ 0 ∷ 0 ∷ 0 ∷ 0 ∷ [])
+    ∷ row-of (reads (set small-file 36 13) (replicate 4 (pos 0)) (replicate 3 0)) (14 ∷ 0 ∷ 0 ∷ 0 ∷ 0 ∷ 0 ∷ 0 ∷ [])
+    ∷ row-of (reads (drop 1 (set small-file 48 65)) (replicate 4 (pos 0)) (replicate 3 0)) (1 ∷ 0 ∷ 0 ∷ 0 ∷ 0 ∷ 0 ∷ 0 ∷ [])
+    ∷ row-of (readsFile (contentOf (sizes 2 3 64) 1 2 (replicate 4 (pos 7)) (0 ∷ 0 ∷ 0 ∷ 0 ∷ 1 ∷ 0 ∷ [])) 0 0) (15 ∷ 1 ∷ 0 ∷ 0 ∷ 0 ∷ 0 ∷ 0 ∷ [])
+    ∷ row-of (signs 2147483647) (4294967294 ∷ [])
+    ∷ row-of (signs 2147483648) (4294967295 ∷ [])
+    ∷ row-of (signs 4294967295) (1 ∷ [])
+    -- checking: records in another order; sizes, positions, edges and indices that are wrong
+    ∷ row-of (checksFile first-air (sizes 2 2 2) (pos 2 ∷ pos 0 ∷ pos 0 ∷ pos 49152 ∷ pos 0 ∷ pos 49152 ∷ pos 0 ∷ pos 0 ∷ pos 1 ∷ pos 0 ∷ pos 49152 ∷ pos 0 ∷ []) (1 ∷ 2 ∷ 0 ∷ [])) (0 ∷ 0 ∷ [])
+    ∷ row-of (checksFile first-air (sizes 2 2 2) (pos 1 ∷ pos 0 ∷ pos 49152 ∷ pos 0 ∷ pos 0 ∷ pos 49152 ∷ pos 0 ∷ pos 0 ∷ pos 2 ∷ pos 0 ∷ pos 0 ∷ pos 49152 ∷ []) (0 ∷ 2 ∷ 1 ∷ [])) (0 ∷ 0 ∷ [])
+    ∷ row-of (checksFile first-air (sizes 2 2 2) (pos 1 ∷ pos 0 ∷ pos 49152 ∷ pos 0 ∷ pos 0 ∷ pos 49152 ∷ pos 0 ∷ pos 0 ∷ pos 2 ∷ pos 0 ∷ pos 0 ∷ pos 49152 ∷ []) (1 ∷ 2 ∷ 0 ∷ [])) (18 ∷ 0 ∷ [])
+    ∷ row-of (checks rtn-air (0 ∷ 4 ∷ 3 ∷ 1 ∷ 2 ∷ 0 ∷ 0 ∷ 2 ∷ 4 ∷ 4 ∷ 2 ∷ 5 ∷ 3 ∷ 1 ∷ 0 ∷ [])) (0 ∷ 0 ∷ [])
+    ∷ row-of (checksFile first-air (sizes 2 2 3) (pos 2 ∷ pos 0 ∷ pos 0 ∷ pos 49152 ∷ pos 0 ∷ pos 49152 ∷ pos 0 ∷ pos 0 ∷ pos 1 ∷ pos 0 ∷ pos 49152 ∷ pos 0 ∷ []) (1 ∷ 2 ∷ 0 ∷ [])) (16 ∷ 0 ∷ [])
+    ∷ row-of (checksFile first-air (sizes 2 2 2) (pos 0 ∷ pos 49152 ∷ pos 0 ∷ pos 0 ∷ pos 1 ∷ pos 0 ∷ pos 49152 ∷ pos 0 ∷ pos 2 ∷ pos 0 ∷ pos 0 ∷ pos 49153 ∷ []) (1 ∷ 2 ∷ 0 ∷ [])) (17 ∷ 2 ∷ [])
+    ∷ row-of (checksFile first-air (sizes 2 2 2) (pos 0 ∷ pos 49152 ∷ pos 0 ∷ pos 0 ∷ pos 1 ∷ pos 0 ∷ pos 49152 ∷ pos 0 ∷ pos 1 ∷ pos 0 ∷ pos 49152 ∷ pos 0 ∷ []) (1 ∷ 2 ∷ 0 ∷ [])) (17 ∷ 2 ∷ [])
+    ∷ row-of (checksFile first-air (sizes 2 2 2) (pos 0 ∷ pos 49152 ∷ pos 0 ∷ pos 0 ∷ pos 1 ∷ pos 0 ∷ pos 49152 ∷ pos 0 ∷ pos 3 ∷ pos 0 ∷ pos 0 ∷ pos 49152 ∷ []) (1 ∷ 2 ∷ 0 ∷ [])) (17 ∷ 2 ∷ [])
+    ∷ row-of (checksFile first-air (sizes 2 2 2) (pos 0 ∷ pos 49152 ∷ pos 0 ∷ pos 0 ∷ pos 1 ∷ pos 0 ∷ pos 49152 ∷ pos 0 ∷ []) []) (19 ∷ 0 ∷ [])
+    ∷ row-of (checksFile first-air (sizes 2 2 2) (pos 0 ∷ pos 49152 ∷ pos 0 ∷ pos 0 ∷ pos 1 ∷ pos 0 ∷ pos 49152 ∷ pos 0 ∷ []) (0 ∷ 1 ∷ 2 ∷ [])) (15 ∷ 0 ∷ [])
+    -- the order of its tests
+    ∷ row-of (checksBytes (lat 2 2 2 (replicate 8 o)) []) (5 ∷ 0 ∷ [])
+    ∷ row-of (checksBytes first-air (drop 29 small-file)) (11 ∷ 0 ∷ [])
+    ∷ row-of (checksBytes first-air (take 51 small-file)) (12 ∷ 0 ∷ [])
+    ∷ row-of (checksBytes first-air (drop 1 small-file)) (14 ∷ 0 ∷ [])
+    ∷ row-of (checksBytes first-air small-file) (16 ∷ 0 ∷ [])
+    -- what these leave open, and single changes of the definitions that only these rows refuse
+    ∷ row-of (lists (lat 2 3 3 (replicate 8 o ++ a ∷ replicate 9 o)) Unnamed) (16 ∷ 0 ∷ 65536 ∷ 32768 ∷ 17 ∷ 0 ∷ 98304 ∷ 32768 ∷ 18 ∷ 32768 ∷ 65536 ∷ 32768 ∷ 20 ∷ 32768 ∷ 98304 ∷ 32768 ∷ 43 ∷ 0 ∷ 32768 ∷ 65536 ∷ 45 ∷ 0 ∷ 32768 ∷ 98304 ∷ 47 ∷ 32768 ∷ 32768 ∷ 65536 ∷ 56 ∷ 32768 ∷ 65536 ∷ 65536 ∷ 57 ∷ 0 ∷ 98304 ∷ 65536 ∷ 58 ∷ 0 ∷ 65536 ∷ 98304 ∷ 2 ∷ 4 ∷ 0 ∷ 2 ∷ 6 ∷ 4 ∷ 2 ∷ 7 ∷ 6 ∷ 1 ∷ 2 ∷ 0 ∷ 3 ∷ 2 ∷ 1 ∷ 1 ∷ 8 ∷ 3 ∷ 3 ∷ 7 ∷ 2 ∷ 3 ∷ 8 ∷ 7 ∷ 4 ∷ 6 ∷ 5 ∷ 7 ∷ 5 ∷ 6 ∷ 7 ∷ 9 ∷ 5 ∷ 8 ∷ 9 ∷ 7 ∷ [])
+    ∷ row-of (builds 100 100 (lat 3 2 2 (o ∷ o ∷ a ∷ replicate 9 o)) Unnamed) (0 ∷ 5 ∷ 3 ∷ 1 ∷ [])
+    ∷ row-of (writes (sizes 1 2 2) 4 1 (replicate 12 (pos 0)) (1 ∷ 2 ∷ 0 ∷ []) 84) (1 ∷ 0 ∷ 0 ∷ [])
+    ∷ row-of (writes (sizes 2 2 2) 3 1 (replicate 12 (pos 0)) (3 ∷ 2 ∷ 0 ∷ []) 84) (15 ∷ 0 ∷ 0 ∷ [])
+    ∷ row-of (reads (set small-file 34 1) (replicate 4 (pos 0)) (replicate 3 0)) (14 ∷ 0 ∷ 0 ∷ 0 ∷ 0 ∷ 0 ∷ 0 ∷ [])
+    ∷ row-of (reads (set small-file 35 1) (replicate 4 (pos 0)) (replicate 3 0)) (14 ∷ 0 ∷ 0 ∷ 0 ∷ 0 ∷ 0 ∷ 0 ∷ [])
+    ∷ row-of (reads (set small-file 42 1) (replicate 4 (pos 0)) (replicate 3 0)) (14 ∷ 0 ∷ 0 ∷ 0 ∷ 0 ∷ 0 ∷ 0 ∷ [])
+    ∷ row-of (reads (set small-file 45 1) (replicate 4 (pos 0)) (replicate 3 0)) (1 ∷ 0 ∷ 0 ∷ 0 ∷ 0 ∷ 0 ∷ 0 ∷ [])
+    ∷ row-of (reads (0 ∷ small-file) (replicate 4 (pos 0)) (replicate 3 0)) (14 ∷ 0 ∷ 0 ∷ 0 ∷ 0 ∷ 0 ∷ 0 ∷ [])
+    ∷ row-of (reads (replicate 16 0 ++ 2 ∷ 0 ∷ 3 ∷ 0 ∷ 64 ∷ 0 ∷ 83 ∷ 83 ∷ []) [] []) (0 ∷ 0 ∷ 0 ∷ 0 ∷ 2 ∷ 3 ∷ 64 ∷ [])
+    ∷ row-of (checksFile first-air (sizes 3 2 2) [] []) (16 ∷ 0 ∷ [])
+    ∷ row-of (checksFile first-air (sizes 2 3 2) [] []) (16 ∷ 0 ∷ [])
+    ∷ row-of (builds 100 100 (lat 2 2 3 (a ∷ replicate 7 o ++ a ∷ replicate 3 o)) Unnamed) (0 ∷ 3 ∷ 1 ∷ 1 ∷ [])
+    ∷ row-of (builds 100 100 first-air (at 0 1 0)) (4 ∷ 0 ∷ 0 ∷ 0 ∷ [])
+    ∷ row-of (builds 100 100 first-air (at 0 0 1)) (4 ∷ 0 ∷ 0 ∷ 0 ∷ [])
+    ∷ row-of (checksFile first-air (sizes 2 2 2) (pos 0 ∷ pos 49153 ∷ pos 0 ∷ pos 0 ∷ []) []) (17 ∷ 0 ∷ [])
+    -- a check from a named start
+    ∷ row-of (checksFrom two-air (at 3 0 0) (at 3 0 0)) (0 ∷ 0 ∷ [])
+    ∷ row-of (checksFrom two-air (at 3 0 0) (at 0 0 0)) (17 ∷ 0 ∷ [])
+    ∷ row-of (checksFrom two-air (at 1 0 0) (at 0 0 0)) (5 ∷ 0 ∷ [])
+    ∷ row-of (checksFrom two-air (at 4 0 0) (at 0 0 0)) (4 ∷ 0 ∷ [])
+    -- what a check leaves: work room as it was before 17, and cleared from there on
+    ∷ row-of (checkLeaves first-air (drop 29 small-file) (full 2 2 57)) (11 ∷ works (full 2 2 57))
+    ∷ row-of (checkLeaves first-air small-file (full 2 2 57)) (16 ∷ works (full 2 2 57))
+    ∷ row-of (checkLeaves first-air small-file (full 0 2 57)) (3 ∷ works (full 0 2 57))
+    ∷ row-of (checkFileLeaves first-air (sizes 2 2 2) three-records (1 ∷ 2 ∷ 0 ∷ []) (full 2 2 57)) (0 ∷ clear-front)
+    ∷ row-of (checkFileLeaves first-air (sizes 2 2 2) (pos 1 ∷ drop 1 three-records) (1 ∷ 2 ∷ 0 ∷ []) (full 2 2 57)) (17 ∷ clear-front)
+    ∷ row-of (checkFileLeaves first-air (sizes 2 2 2) three-records (1 ∷ 0 ∷ 2 ∷ []) (full 2 2 57)) (18 ∷ clear-front)
+    ∷ row-of (checkFileLeaves first-air (sizes 2 2 2) three-records [] (full 2 2 57)) (19 ∷ clear-front)
+    -- what a writer leaves in longer bytes, of longer slices, and what it leaves where it refuses
+    ∷ row-of (writeLeaves (sizes 2 3 64) 1 1 (small-record ++ replicate 4 (pos 7)) (replicate 6 0) (replicate 54 9)) (small-file ++ 9 ∷ 9 ∷ [])
+    ∷ row-of (writeLeaves (sizes 2 3 64) 1 1 small-record (replicate 3 0) (replicate 51 9)) (replicate 51 9)
+    -- what a reader leaves in longer slices, signs kept, and what it leaves where it refuses
+    ∷ row-of (readLeaves small-file (replicate 5 (pos 9)) (replicate 4 8)) (3 ∷ 516 ∷ 0 ∷ 4294967295 ∷ 18 ∷ 0 ∷ 0 ∷ 0 ∷ 8 ∷ [])
+    ∷ row-of (readLeaves small-file (replicate 5 (pos 9)) (replicate 2 8)) (18 ∷ 18 ∷ 18 ∷ 18 ∷ 18 ∷ 8 ∷ 8 ∷ [])
+    ∷ []
+
+pinned : map (λ r. outcome (r .case)) table ≡ map (λ r. r .is) table
+unfolding outcome table
+pinned = refl
