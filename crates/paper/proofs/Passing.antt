@@ -42,6 +42,10 @@ starting L Unnamed t h =
     ltb→lt (first (mayStart L) n (range 0 n)) n (eq→T (sym (any-first (mayStart L) n) ∙ h))
 starting L (Cube p) t h = cube-lt (L .size) p (in-lattice (L .size) p (eq→T t))
 
+pub shape-numbered : (L : Lattice) (m : Lengths) → Numbered (shapeTests L m)
+unfolding shapeTests
+shape-numbered L m = (omega arith, (omega arith, (omega arith, tt)))
+
 module _ (L : Lattice) (s : Start) (m : Lengths) where
   pub sample-numbered : Numbered (sampleTests L s m)
   unfolding sampleTests shapeTests startTests

@@ -1,17 +1,17 @@
 -- The visited cubes: a cube is in the list exactly when steps from the start lead to it. Assumes nothing.
-use mathlib.Core.Path.{_≡_, sym, subst}
-use mathlib.Core.Bool.{_&&_}
+use mathlib.Core.Path.{_≡_, sym, ap, subst, _∙_}
+use mathlib.Core.Bool.{Bool, _&&_}
 use Prim.Native.Nat.{ℕ, _+_, _≤_, _<_}
 use native.Mathlib.Omega.{arith}
 use lib.Dec.{T, ltb, leb, eqb, ltb→lt, lt→ltb, leb→le}
 use Rattle.lists.specs.Lists.{range, keep, isIn}
-use Rattle.lists.proofs.Member.{and-left, and-right, and3, both3, any-each, any-some, in-consIf}
+use Rattle.lists.proofs.Member.{T→eq, and-left, and-right, and3, both3, any-each, any-some, in-consIf}
 use Rattle.lists.proofs.Closure.{sound, complete, reached-kept, reached-lt}
 use Rattle.paper.specs.declared.Sizes.{Sizes}
 use Rattle.paper.specs.declared.Place.{Place}
-use Rattle.paper.specs.Lattice.{Lattice, axis, axes, cubes, cubeNo, cubeAt, inLattice, visitable, mixedAt, faces, stepOver, steps, Visited, visited}
+use Rattle.paper.specs.Lattice.{Lattice, axis, axes, cubes, cubeNo, cubeAt, inLattice, visitable, crossed, mixedAt, faces, stepOver, steps, Visited, visited}
 use Rattle.paper.specs.Within.{Sized, CubeIn}
-use Rattle.paper.proofs.Numbers.{cube-lt}
+use Rattle.paper.proofs.Numbers.{cube-lt, cube-place}
 
 -- what test 1 and the test of a cube's place say
 first-le : (a b c d : ℕ) → T (leb a b && leb c d) → a ≤ b
@@ -57,6 +57,14 @@ visitable-in L p t = in-lattice (L .size) p t
 pub in-visitable : (L : Lattice) (p : Place) → CubeIn (L .size) p → T (visitable L p)
 unfolding visitable
 in-visitable L p h = lattice-in (L .size) p h
+
+-- the cube at a place of the lattice is crossed where its corners are mixed
+pub crossed-at : (L : Lattice) (p : Place) → CubeIn (L .size) p → crossed L (cubeNo (L .size) p) ≡ mixedAt L p (range 0 8)
+unfolding crossed
+crossed-at L p h =
+    let q = cube-place (L .size) p (omega (arith, h .x)) (omega (arith, h .y)) in
+    (λ i. visitable L (q i) && mixedAt L (q i) (range 0 8))
+    ∙ ap (λ (b : Bool). b && mixedAt L p (range 0 8)) (T→eq (visitable L p) (in-visitable L p h))
 
 -- a step leads to a cube of the lattice
 pub step-lt : (L : Lattice) (j k : ℕ) → T (isIn (steps L j) k) → k < cubes (L .size)

@@ -45,8 +45,11 @@ pub record Lengths : Type 0 where
   pub waiting : ℕ
   pub slots : ℕ
 
+abbrev pub ofLengths : ℕ → ℕ → ℕ → Lengths
+ofLengths words waiting slots = record { words = words; waiting = waiting; slots = slots }
+
 abbrev pub lengths : Work → Lengths
-lengths w = record { words = length (w .words); waiting = length (w .waiting); slots = length (w .slots) }
+lengths w = ofLengths (length (w .words)) (length (w .waiting)) (length (w .slots))
 
 -- how many numbers of each are needed: "each at least as long as there are cubes; edge slots (u32), at least 7 × samples"
 abbrev pub needed : Sizes → ℕ

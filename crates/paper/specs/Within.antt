@@ -6,6 +6,7 @@ use Rattle.paper.specs.declared.Sizes.{Sizes}
 use Rattle.paper.specs.declared.Place.{Place}
 use Rattle.paper.specs.Lattice.{Lattice, samples}
 use Rattle.paper.specs.Tables.{Tri}
+use Rattle.paper.specs.Room.{Lengths, needed, neededSlots}
 
 -- sizes that pass test 1
 pub record Sized (n : Sizes) : Type 0 where
@@ -20,6 +21,12 @@ pub record Sized (n : Sizes) : Type 0 where
 pub record Full (L : Lattice) : Type 0 where
   pub sized : Sized (L .size)
   pub count : length (L .values) ≡ samples (L .size)
+
+-- work room that passes test 3
+pub record Roomy (z : Sizes) (n : Lengths) : Type 0 where
+  pub words : needed z ≤ n .words
+  pub waiting : needed z ≤ n .waiting
+  pub slots : neededSlots z ≤ n .slots
 
 -- a place of a sample
 pub record SampleIn (n : Sizes) (p : Place) : Type 0 where

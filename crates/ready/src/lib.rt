@@ -5,9 +5,10 @@ use paper::Start;
 ghost use mathlib.Core.Path.{_≡_};
 ghost use Prim.Native.Nat.{_<_};
 ghost use Rattle.paper.specs.Lattice.{lattice, inLattice};
-ghost use Rattle.paper.specs.Build.{roomy};
+ghost use Rattle.paper.specs.Room.{ofLengths, roomy};
 ghost use Rattle.paper.specs.Within.{Sized, Full};
-ghost use Rattle.ready.specs.Ready.{Readied, Chosen, NamedChosen, LowestChosen};
+ghost use Rattle.paper.specs.declared.Start.the-variants.{Unnamed, Cube};
+ghost use Rattle.ready.specs.Ready.{Shaped, Chosen, Readied};
 
 // 0 or the number of a refusal, and the start cube where it is 0.
 pub struct Ready {
@@ -18,7 +19,7 @@ pub struct Ready {
 // Test 3.
 fn has_room(sizes: Sizes, words: usize, waiting: usize, slots: usize) -> bool
     requires { ⌜ Sized sizes ⌝ }
-    ensures { λ r. ⌜ r ≡ roomy sizes words waiting slots ⌝ }
+    ensures { λ r. ⌜ r ≡ roomy sizes (ofLengths words waiting slots) ⌝ }
 {
     let n = lattice::cube_count(sizes);
     if words < n {
@@ -47,7 +48,7 @@ fn is_cube(sizes: Sizes, p: Place) -> bool
 // Tests 4 and 5 of a named cube.
 fn named_cube(samples: &[i16], sizes: Sizes, p: Place) -> Ready
     requires { ⌜ Full (lattice sizes (now samples)) ⌝ }
-    ensures { λ r. ⌜ NamedChosen (lattice sizes (now (samples .entry))) p r ⌝ }
+    ensures { λ r. ⌜ Chosen (lattice sizes (now (samples .entry))) (Cube p) r ⌝ }
 {
     let there = is_cube(sizes, p);
     if !there {
@@ -66,7 +67,7 @@ fn named_cube(samples: &[i16], sizes: Sizes, p: Place) -> Ready
 // Test 5 where no cube is named.
 fn lowest_cube(samples: &[i16], sizes: Sizes) -> Ready
     requires { ⌜ Full (lattice sizes (now samples)) ⌝ }
-    ensures { λ r. ⌜ LowestChosen (lattice sizes (now (samples .entry))) r ⌝ }
+    ensures { λ r. ⌜ Chosen (lattice sizes (now (samples .entry))) Unnamed r ⌝ }
 {
     let k = sides::lowest_crossed(samples, sizes);
     let n = lattice::cube_count(sizes);
@@ -87,7 +88,26 @@ fn choose(samples: &[i16], sizes: Sizes, start: Start) -> Ready
     }
 }
 
-// Tests 1 to 5; words, waiting and slots are the lengths of the work slices.
+// Tests 1 to 3; words, waiting and slots are the lengths of the work slices.
+pub fn shape(samples: &[i16], sizes: Sizes, words: usize, waiting: usize, slots: usize) -> usize
+    ensures { λ r. ⌜ Shaped (lattice sizes (now (samples .entry))) (ofLengths words waiting slots) r ⌝ }
+{
+    let shaped = lattice::axes_pass(sizes);
+    if !shaped {
+        return 1;
+    }
+    let n = lattice::sample_count(sizes);
+    if samples.len() != n {
+        return 2;
+    }
+    let roomy = has_room(sizes, words, waiting, slots);
+    if !roomy {
+        return 3;
+    }
+    0
+}
+
+// Tests 1 to 5.
 pub fn begin(
     samples: &[i16],
     sizes: Sizes,
@@ -96,19 +116,11 @@ pub fn begin(
     waiting: usize,
     slots: usize,
 ) -> Ready
-    ensures { λ r. ⌜ Readied (lattice sizes (now (samples .entry))) start words waiting slots r ⌝ }
+    ensures { λ r. ⌜ Readied (lattice sizes (now (samples .entry))) start (ofLengths words waiting slots) r ⌝ }
 {
-    let shaped = lattice::axes_pass(sizes);
-    if !shaped {
-        return Ready { number: 1, cube: 0 };
-    }
-    let n = lattice::sample_count(sizes);
-    if samples.len() != n {
-        return Ready { number: 2, cube: 0 };
-    }
-    let roomy = has_room(sizes, words, waiting, slots);
-    if !roomy {
-        return Ready { number: 3, cube: 0 };
+    let number = shape(samples, sizes, words, waiting, slots);
+    if number != 0 {
+        return Ready { number: number, cube: 0 };
     }
     choose(samples, sizes, start)
 }

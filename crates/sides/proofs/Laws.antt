@@ -14,12 +14,12 @@ use Rattle.lists.proofs.Runs.{at-along}
 use Rattle.lists.proofs.Computed.{Test8, every8, every8-at, upto, upto-at, below6}
 use Rattle.paper.specs.declared.Sizes.{Sizes}
 use Rattle.paper.specs.declared.Place.{Place}
-use Rattle.paper.specs.Lattice.{Lattice, lattice, air, sampleNo, valueAt, airAt, corner, mixed, mixedAt, crossed, cubes, cubeNo, cubeAt, inLattice, face, place, faces, faceAt, stepOver, steps}
+use Rattle.paper.specs.Lattice.{Lattice, lattice, air, sampleNo, valueAt, airAt, corner, mixed, mixedAt, crossed, cubes, cubeNo, cubeAt, inLattice, visitable, face, place, faces, faceAt, stepOver, steps}
 use Rattle.paper.specs.Sheet.{weight}
 use Rattle.paper.specs.Within.{CubeIn}
 use Rattle.lists.proofs.Closure.{bool-same}
 use Rattle.paper.proofs.Numbers.{cube-place}
-use Rattle.paper.proofs.Visits.{in-lattice, lattice-in}
+use Rattle.paper.proofs.Visits.{in-lattice, lattice-in, crossed-at}
 use Rattle.lattice.specs.Steps.{cornerStep}
 use Rattle.lattice.proofs.Laws.{corner-no}
 use Rattle.sides.specs.Pattern.{bits, patternAt, sideNo, quarterAt, bitOf, crossedBy, faceCorners, faceCorner, airsBy, mixedBy, neighbours, stepTo}
@@ -116,10 +116,8 @@ crossed-all = tt
 
 -- the cube at p is crossed where its pattern says so
 pub crossed-by : (L : Lattice) (p : Place) → CubeIn (L .size) p → crossed L (cubeNo (L .size) p) ≡ crossedBy (patternAt L p)
-unfolding crossed mixedAt patternAt crossed-test
-crossed-by L p h =
-    ap (λ (q : Place). mixedAt L q (range 0 8)) (cube-place (L .size) p (omega (arith, h .x)) (omega (arith, h .y)))
-    ∙ same-eq _ _ (at8 crossed-test crossed-all L p)
+unfolding mixedAt patternAt crossed-test
+crossed-by L p h = crossed-at L p h ∙ same-eq _ _ (at8 crossed-test crossed-all L p)
 
 -- the sides of the four corners of face f, from all eight
 faceSides : List Bool → ℕ → List Bool
@@ -149,7 +147,7 @@ mixed-by L p f h =
 
 -- a step is one over some face, and leads where stepTo says
 pub step-by : (L : Lattice) (k j : ℕ) → T (isIn (steps L k) j) → (f : ℕ) × (f < 6) × (stepTo L k f ≡ j)
-unfolding steps stepOver stepTo neighbours faceAt faces
+unfolding steps stepOver visitable stepTo neighbours faceAt faces
 step-by L k j t =
     let p = cubeAt (L .size) k in
     let w = any-at (λ f. isIn (stepOver L p f) j) (faces p) (face [] false p) (subst T (any-each (eqb j) (stepOver L p) (faces p)) t) in
@@ -163,7 +161,7 @@ chosen true x n h = or-left (eqb x x) false (eqb-refl x)
 chosen false x n h = absurd (omega arith)
 
 pub by-step : (L : Lattice) (k f : ℕ) → f < 6 → stepTo L k f < cubes (L .size) → T (isIn (steps L k) (stepTo L k f))
-unfolding steps stepOver stepTo neighbours faceAt faces
+unfolding steps stepOver visitable stepTo neighbours faceAt faces
 by-step L k f h l =
     let p = cubeAt (L .size) k in
     let g = faceAt p f in

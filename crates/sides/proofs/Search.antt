@@ -10,11 +10,11 @@ use Rattle.paper.specs.Lattice.{Lattice, crossed, cubes, cubeNo, place, lowest}
 abbrev pub Clear : Lattice → ℕ → Type 0
 Clear L k = (j : ℕ) → j < k → crossed L j ≡ false
 
-pub none : (L : Lattice) (k : ℕ) → k ≡ cubes (L .size) → Clear L k → k ≡ lowest L
+pub none : (L : Lattice) (k : ℕ) → k ≡ cubes (L .size) → Clear L k → k ≡ lowest (L .size) (crossed L)
 unfolding lowest
 none L k e h = e ∙ sym (first-none (crossed L) (cubes (L .size)) 0 (cubes (L .size)) (λ j a b. h j (omega arith)))
 
-pub found : (L : Lattice) (k : ℕ) → k < cubes (L .size) → Clear L k → crossed L k ≡ true → k ≡ lowest L
+pub found : (L : Lattice) (k : ℕ) → k < cubes (L .size) → Clear L k → crossed L k ≡ true → k ≡ lowest (L .size) (crossed L)
 unfolding lowest
 found L k l h e =
     sym (first-at (crossed L) (cubes (L .size)) 0 (cubes (L .size)) k (omega arith) (omega arith) (λ j a b. h j b) e)

@@ -79,7 +79,7 @@ pub fn crossed_at(samples: &[i16], sizes: Sizes, p: Place) -> bool
 // The number of the lowest crossed cube, or the number of cubes where none is crossed.
 pub fn lowest_crossed(samples: &[i16], sizes: Sizes) -> usize
     requires { ⌜ Full (lattice sizes (now samples)) ⌝ }
-    ensures { λ r. ⌜ r ≡ lowest (lattice sizes (now (samples .entry))) ⌝ }
+    ensures { λ r. ⌜ r ≡ lowest sizes (crossed (lattice sizes (now (samples .entry)))) ⌝ }
 {
     let mut k: usize = 0;
     'sought: for z in 0..sizes.nz - 1 {

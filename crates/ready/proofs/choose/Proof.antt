@@ -23,16 +23,12 @@ named-cube-requires c κs = search needs
 returns : tie.Need-returns
 returns c =
     let L = lattice (c .before .before .before .args .sizes) (now (c .before .before .before .args .samples)) in
-    let w = c .lowest-cube .ensures in
-    subst (λ (s : Start). Chosen L s (c .lowest-cube .result)) (sym (c .before .enum-told .given .1))
-    (record { answer = w .answer; is = w .is; below = w .below })
+    subst (λ (s : Start). Chosen L s (c .lowest-cube .result)) (sym (c .before .enum-told .given .1)) (c .lowest-cube .ensures)
 
 returns-2 : tie.Need-returns-2
 returns-2 c =
     let L = lattice (c .before .before .before .before .args .sizes) (now (c .before .before .before .before .args .samples)) in
-    let w = c .named-cube .ensures in
-    subst (λ (s : Start). Chosen L s (c .named-cube .result)) (sym (c .before .before .start .given .1))
-    (record { answer = w .answer; is = w .is; below = w .below })
+    subst (λ (s : Start). Chosen L s (c .named-cube .result)) (sym (c .before .before .start .given .1)) (c .named-cube .ensures)
 
 pub choose-spec : {M : Type 1} → statement M
 choose-spec =

@@ -1,7 +1,7 @@
 -- Slice by slice. Assumes nothing.
 use borrow.Author.Needs.{needs}
 use borrow.Author.Tests.{lt-leb, le-leb}
-use Rattle.paper.specs.Build.{roomy}
+use Rattle.paper.specs.Room.{roomy}
 use Rattle.ready.proofs.has_room.Statement.{statement}
 use Rattle.ready.proofs.has_room.Tie as tie
 
