@@ -5,8 +5,8 @@ use Prim.Native.Nat.{ℕ}
 use Rattle.paper.specs.declared.Start.{Start}
 use Rattle.paper.specs.declared.Verdict.{Verdict}
 use Rattle.paper.specs.Lattice.{Lattice}
-use Rattle.paper.specs.Build.{needed, neededSlots, workAfter}
-use Rattle.paper.specs.Check.{Work, work, Checks}
+use Rattle.paper.specs.Room.{needed, neededSlots, workAfter, Work, work}
+use Rattle.paper.specs.Check.{Checks}
 
 pub checks-agree : {L : Lattice} {s : Start} {bs : List ℕ} {before : Work} {r r′ : Verdict} {after after′ : Work}
     → Checks L s bs before r after → Checks L s bs before r′ after′ → (r ≡ r′) × (after ≡ after′)

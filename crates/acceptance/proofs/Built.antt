@@ -19,9 +19,10 @@ use Rattle.paper.specs.declared.Wrote.{Wrote}
 use Rattle.paper.specs.Lattice.{Lattice, samples}
 use Rattle.paper.specs.Tables.{tri}
 use Rattle.paper.specs.Sheet.{Sheet, sheetOf, vertexRecord, vertexWords, triangleWords}
+use Rattle.paper.specs.Room.{outputAfter}
 use Rattle.paper.specs.Within.{Sized, Below}
 use Rattle.paper.specs.Tests.{judge}
-use Rattle.paper.specs.Build.{Lent, startOf, sampleTests, buildNumber, counted, built, outputAfter, lentAfter, Builds}
+use Rattle.paper.specs.Build.{Lent, startOf, sampleTests, buildNumber, counted, built, lentAfter, Builds}
 use Rattle.paper.specs.File.{contentOf, fileBytes, writeVerdict, Writes}
 use Rattle.paper.specs.Check.{recordOf, edgeOf, cornerOf, triangleOf, sameNumbers, turned, checked}
 use Rattle.paper.proofs.Listing.{named, edges-lt, sheet-positioned, indices-below, indices-name, record-length, vertex-words-length, triangle-words-length}

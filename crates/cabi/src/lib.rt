@@ -8,9 +8,10 @@ use paper::Verdict;
 use paper::Wrote;
 ghost use mathlib.Core.Path.{_≡_};
 ghost use Rattle.paper.specs.Lattice.{lattice};
+ghost use Rattle.paper.specs.Room.{work};
 ghost use Rattle.paper.specs.Build.{lent, Builds};
 ghost use Rattle.paper.specs.File.{Writes, Reads};
-ghost use Rattle.paper.specs.Check.{work, Checks};
+ghost use Rattle.paper.specs.Check.{Checks};
 ghost use Rattle.cabi.specs.Named.{startIf};
 
 // The start that a flag and a place name.

@@ -9,9 +9,8 @@ use borrow.Author.Tests.{eq-eqb, ne-eqb}
 use Rattle.paper.specs.declared.Sizes.{Sizes}
 use Rattle.paper.specs.Lattice.{Lattice, cubes}
 use Rattle.paper.specs.Tests.{verdict, judge}
-use Rattle.paper.specs.Build.{needed, neededSlots}
+use Rattle.paper.specs.Room.{needed, neededSlots, Work}
 use Rattle.paper.specs.File.{fileV, fileT, fileVertices, fileTriangles}
-use Rattle.paper.specs.Check.{Work}
 use Rattle.flood.specs.Flooded.{Beyond}
 use Rattle.measure.specs.declared.Counts.{Counts}
 use Rattle.records.specs.Records.{edgeAt, firstBadIn as firstBadRecord, slotsAfter}

@@ -15,11 +15,12 @@ use Rattle.paper.specs.declared.Start.{Start}
 use Rattle.paper.specs.declared.Verdict.{Verdict}
 use Rattle.paper.specs.Lattice.{Lattice, cubes, visited}
 use Rattle.paper.specs.Sheet.{Sheet, numbered, sheetOf}
+use Rattle.paper.specs.Room.{needed, neededSlots, clears, workAfter, Work, work}
 use Rattle.paper.specs.Within.{Sized, Full}
 use Rattle.paper.specs.Tests.{Test, verdict, judge}
-use Rattle.paper.specs.Build.{needed, neededSlots, startOf, sampleTests, clears, workAfter}
+use Rattle.paper.specs.Build.{startOf, sampleTests}
 use Rattle.paper.specs.File.{fileV, fileT, fileSizes, fileVertices, fileTriangles, fileTests}
-use Rattle.paper.specs.Check.{Work, work, sameSizes, badRecord, badNaming, complete, sheetTests, checked}
+use Rattle.paper.specs.Check.{sameSizes, badRecord, badNaming, complete, sheetTests, checked}
 use Rattle.paper.proofs.Judged.{Numbered, numbered-both, judge-past, judge-stop, judge-among}
 use Rattle.paper.proofs.Tested.{recorded, listed}
 use Rattle.paper.proofs.Passing.{sample-numbered, file-numbered, work-kept, work-cleared}

@@ -9,12 +9,12 @@ use Rattle.lists.specs.Lists.{cleared}
 use Rattle.paper.specs.declared.Sizes.{Sizes}
 use Rattle.paper.specs.declared.Verdict.{Verdict}
 use Rattle.paper.specs.Lattice.{Lattice, cubes}
+use Rattle.paper.specs.Room.{needed, neededSlots, Work, work}
 use Rattle.paper.specs.Within.{Full}
 use Rattle.paper.specs.Tests.{Test, test, testAt, judge}
 use Rattle.paper.specs.Sheet.{sheetOf}
-use Rattle.paper.specs.Build.{needed, neededSlots}
 use Rattle.paper.specs.File.{fileV, fileT, fileVertices, fileTriangles}
-use Rattle.paper.specs.Check.{Work, work, sheetTests}
+use Rattle.paper.specs.Check.{sheetTests}
 use Rattle.flood.specs.Flooded.{Beyond}
 use Rattle.layout.specs.Laid.{LaidOut}
 use Rattle.measure.specs.declared.Counts.{Counts}

@@ -6,9 +6,10 @@ use paper::Verdict;
 ghost use mathlib.Core.Path.{_≡_};
 ghost use Prim.Native.Nat.{_<_};
 ghost use Rattle.paper.specs.Lattice.{lattice, cubes};
+ghost use Rattle.paper.specs.Room.{work};
 ghost use Rattle.paper.specs.Within.{Full};
 ghost use Rattle.paper.specs.Tests.{judge};
-ghost use Rattle.paper.specs.Check.{sameSizes, work, Checks};
+ghost use Rattle.paper.specs.Check.{sameSizes, Checks};
 ghost use Rattle.layout.specs.Laid.{LaidOut};
 ghost use Rattle.checker.specs.Checked.{Compared, Comparable, Roomy, clean, lastTests};
 

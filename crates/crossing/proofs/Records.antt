@@ -7,10 +7,10 @@ use lib.Dec.{T}
 use Rattle.paper.specs.declared.Sizes.{Sizes}
 use Rattle.paper.specs.declared.Place.{Place}
 use Rattle.paper.specs.Lattice.{Lattice, sampleNo, sampleAt, airAt, corner}
-use Rattle.paper.specs.Sheet.{split, recordAt, vertexRecord}
+use Rattle.paper.specs.Sheet.{edgeFrom, anchorOf, kindIn, endsOf, firstEnd, secondEnd, split, recordAt, vertexRecord}
 use Rattle.paper.specs.Within.{Sized, SampleIn}
 use Rattle.paper.proofs.Numbers.{sample-place}
-use Rattle.crossing.specs.Vertex.{endsOf, Near, NearPlaces, Crosses}
+use Rattle.crossing.specs.Vertex.{Near, NearPlaces, Crosses}
 
 xor-true : (b : Bool) → xor true b ≡ true → b ≡ false
 unfolding xor
@@ -42,20 +42,21 @@ module _ (L : Lattice) (p : Place) (k : ℕ) (i : SampleIn (L .size) p) (x : Cro
   to = corner p (endsOf k .b)
 
   abbrev pub edge : ℕ
-  edge = 7 * sampleNo (L .size) p + k
+  edge = edgeFrom (sampleNo (L .size) p) k
 
   seven : edge / 7 ≡ sampleNo (L .size) p
   seven = omega (arith, x .kind)
 
-  kind-is : edge % 7 ≡ k
+  kind-is : kindIn edge ≡ k
   kind-is = omega (arith, x .kind)
 
-  anchor : sampleAt (L .size) (edge / 7) ≡ p
+  anchor : anchorOf (L .size) edge ≡ p
+  unfolding anchorOf
   anchor = ap (sampleAt (L .size)) seven ∙ sample-place (L .size) p (i .x) (i .y)
 
   -- which end is air decides the order
   pub record-is : vertexRecord L edge ≡ cond (airAt L from) (recordAt L edge to from) (recordAt L edge from to)
-  unfolding vertexRecord endsOf
+  unfolding vertexRecord firstEnd secondEnd
   record-is =
       λ j.
       let u = corner (anchor j) (endsOf (kind-is j) .a) in

@@ -4,21 +4,15 @@ use mathlib.Core.Bool.{true}
 use mathlib.Core.List.{List, [], _∷_}
 use Prim.Native.Nat.{ℕ, _+_, _≤_, _<_}
 use lib.IntN.{ℤ}
-use lib.ListN.{getD}
 use Rattle.paper.specs.declared.Place.{Place}
 use Rattle.paper.specs.Lattice.{Lattice, corner}
-use Rattle.paper.specs.Tables.{Ends, ends, kinds}
-use Rattle.paper.specs.Sheet.{split}
+use Rattle.paper.specs.Sheet.{endsOf, split}
 use Rattle.paper.specs.Within.{SampleIn}
 use Rattle.crossing.specs.declared.Vertex.{Vertex}
 
 -- the four numbers of a record
 abbrev pub numbers : Vertex → List ℤ
 numbers v = v .edge ∷ v .x ∷ v .y ∷ v .z ∷ []
-
--- the ends of the edges of a kind, as corners from the anchor
-unfoldable pub endsOf : ℕ → Ends
-endsOf k = getD kinds k (ends 0 0)
 
 -- two ends of an edge on one axis of at most 64 samples: the same, or one apart
 pub record Near (s a : ℕ) : Type 0 where

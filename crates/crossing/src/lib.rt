@@ -8,9 +8,9 @@ ghost use lib.IntN.{pos};
 ghost use lib.ListN.{length};
 ghost use lib.Seq.{sets};
 ghost use Rattle.paper.specs.Lattice.{lattice, air, sampleNo, valueAt, airAt, corner};
-ghost use Rattle.paper.specs.Sheet.{crossing, coordinate, recordAt, vertexRecord};
+ghost use Rattle.paper.specs.Sheet.{edgeFrom, endsOf, crossing, coordinate, recordAt, vertexRecord};
 ghost use Rattle.paper.specs.Within.{Full, SampleIn};
-ghost use Rattle.crossing.specs.Vertex.{numbers, endsOf, Near, NearPlaces, Crosses};
+ghost use Rattle.crossing.specs.Vertex.{numbers, Near, NearPlaces, Crosses};
 
 // A vertex record.
 pub struct Vertex {

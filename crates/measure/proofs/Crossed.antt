@@ -13,13 +13,12 @@ use Rattle.lists.proofs.Every.{all-in}
 use Rattle.lists.proofs.Runs.{over-along}
 use Rattle.paper.specs.declared.Place.{Place}
 use Rattle.paper.specs.Lattice.{Lattice, sampleAt, airAt, cubes, visited}
-use Rattle.paper.specs.Sheet.{split, cubeEdges, sheetOf}
-use Rattle.paper.specs.Build.{neededSlots}
+use Rattle.paper.specs.Sheet.{anchorOf, firstEnd, secondEnd, split, cubeEdges, sheetOf}
+use Rattle.paper.specs.Room.{neededSlots}
 use Rattle.paper.specs.Within.{Sized, SampleIn}
-use Rattle.paper.proofs.Edges.{anchorOf, endsOf, Joined, cube-edges-join}
-use Rattle.paper.proofs.Listing.{edges-exactly, visits-lt}
+use Rattle.paper.proofs.Edges.{Joined, cube-edges-join}
+use Rattle.paper.proofs.Listing.{sheet-edges, visits-lt}
 use Rattle.crossing.specs.Vertex.{Crosses}
-use Rattle.crossing.specs.Vertex as C
 use Rattle.survey.specs.Marks.{used}
 use Rattle.measure.specs.Measured.{slotsOf}
 use Rattle.measure.specs.Crossed.{AllCross}
@@ -32,7 +31,7 @@ CrossesNo L n = Crosses L (sampleAt (L .size) (n / 7)) (n % 7)
 -- the two ends of an edge's number, where they are samples on different sides
 crosses-at : (L : Lattice) (n : ℕ) (u v : Place) → Joined (L .size) n u v → SampleIn (L .size) u → SampleIn (L .size) v
     → T (xor (airAt L u) (airAt L v)) → CrossesNo L n
-unfolding anchorOf endsOf C.endsOf split
+unfolding anchorOf firstEnd secondEnd split
 crosses-at L n u v j hu hv x = record {
   kind = omega arith;
   first = subst (SampleIn (L .size)) (sym (j .first)) hu;
@@ -63,13 +62,12 @@ module _ (L : Lattice) (s : Sized (L .size)) (start : ℕ) (slots s₀ : List �
       go false = refl
 
   pub all-cross : AllCross L slots
-  unfolding sheetOf
   all-cross = record {
     at = λ k h t.
         let vs = visited L start in
-        let u : T (isIn (each (cubeEdges L) vs) k) = subst T (slot-used k h ∙ edges-exactly L s vs (visits-lt L s start) k) t in
+        let u : T (isIn (each (cubeEdges L) vs) k) = subst T (slot-used k h ∙ sheet-edges L s start k) t in
         let a = any-in (λ c. isIn (cubeEdges L c) k) vs (subst T (any-each (eqb k) (cubeEdges L) vs) u) in
         let c = a .0 in
-        let hc = all-in (λ k. k < cubes (L .size)) vs (visits-lt L s start) c (a .1 .0) in
+        let hc = all-in (λ k. k < cubes (L .size)) vs (visits-lt L start) c (a .1 .0) in
         all-in (CrossesNo L) (cubeEdges L c) (cube-edges-join L s c hc (CrossesNo L) (crosses-at L)) k (a .1 .1);
   }

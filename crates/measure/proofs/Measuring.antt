@@ -13,10 +13,10 @@ use Rattle.lists.proofs.Closure.{keep-same}
 use Rattle.lists.proofs.Runs.{length-along}
 use Rattle.paper.specs.declared.Sizes.{Sizes}
 use Rattle.paper.specs.Lattice.{Lattice, cubes, visited}
-use Rattle.paper.specs.Sheet.{cubeEdges, vertexEdges, cubeTriangles, numbered, sheetOf}
-use Rattle.paper.specs.Build.{needed, neededSlots}
+use Rattle.paper.specs.Sheet.{cubeEdges, vertexEdges, numbered, sheetBy, sheetOf}
+use Rattle.paper.specs.Room.{needed, neededSlots}
 use Rattle.paper.specs.Within.{Sized}
-use Rattle.paper.proofs.Listing.{edges-exactly, edges-lt, visits-lt}
+use Rattle.paper.proofs.Listing.{parts, sheet-edges, sheet-edges-lt}
 use Rattle.flood.specs.Flooded.{wordsOf, Beyond}
 use Rattle.survey.specs.Marks.{marks, usedOf, edgesUpto, trianglesUpto, numberIn}
 use Rattle.measure.specs.declared.Counts.{Counts}
@@ -38,11 +38,11 @@ module _ (L : Lattice) (s : Sized (L .size)) (start : ℕ) (words w₀ : List �
   below =
       in-all (λ e. e < neededSlots z) marked
       (λ k t.
-      all-in (λ e. e < neededSlots z) (vertexEdges L vs) (edges-lt L vs) k
-      (subst T (all-edges L start words w₀ e k ∙ sym (edges-exactly L s vs (visits-lt L s start) k)) t))
+      all-in (λ e. e < neededSlots z) (sheetOf L start .edges) (sheet-edges-lt L start) k
+      (subst T (all-edges L start words w₀ e k ∙ sym (sheet-edges L s start k)) t))
 
   edges-are : keep (isIn marked) (range 0 (neededSlots z)) ≡ sheetOf L start .edges
-  unfolding sheetOf vertexEdges
+  unfolding sheetOf sheetBy vertexEdges
   edges-are = keep-same (isIn marked) (isIn (each (cubeEdges L) vs)) (range 0 (neededSlots z)) (λ k t. all-edges L start words w₀ e k)
 
   module _ (n : ℕ) (en : n ≡ neededSlots z) (s₀ s₁ s₂ s₃ : List ℕ) (fits : neededSlots z ≤ length s₀) (a : s₁ ≡ cleared n s₀)
@@ -61,18 +61,16 @@ module _ (L : Lattice) (s : Sized (L .size)) (start : ℕ) (words w₀ : List �
     vertices-counted =
         (λ i. length (usedOf (from i) (en i))) ∙ ap length (used-is (neededSlots z) s₀ marked fits below (neededSlots z) (omega arith) ∙ edges-are)
 
-  pub triangles-counted : length (trianglesUpto z words (cubes z)) ≡ length (sheetOf L start .triangles)
-  unfolding sheetOf
-  triangles-counted =
-      ap length (all-triangles L start words w₀ e) ∙ sym (length-map (each (cubeTriangles L) vs) (numbered (vertexEdges L vs)))
-
   pub triangles-listed : trianglesUpto z words (cubes z) ≡ sheetOf L start .byEdge
-  unfolding sheetOf
-  triangles-listed = all-triangles L start words w₀ e
+  triangles-listed = all-triangles L start words w₀ e ∙ sym (parts L start .by-edge)
+
+  pub triangles-counted : length (trianglesUpto z words (cubes z)) ≡ length (sheetOf L start .triangles)
+  triangles-counted =
+      let S = sheetOf L start in
+      ap length triangles-listed ∙ sym (ap length (parts L start .triangles) ∙ length-map (S .byEdge) (numbered (S .edges)))
 
   pub visits-counted : length vs ≡ sheetOf L start .visits
-  unfolding sheetOf
-  visits-counted = refl
+  visits-counted = sym (parts L start .visits)
 
 -- ── clearing undoes all of it ──
 

@@ -3,7 +3,7 @@ use mathlib.Core.List.{List}
 use Prim.Native.Nat.{ℕ, _/_, _%_, _<_}
 use lib.Dec.{T}
 use Rattle.paper.specs.Lattice.{Lattice, sampleAt}
-use Rattle.paper.specs.Build.{neededSlots}
+use Rattle.paper.specs.Room.{neededSlots}
 use Rattle.crossing.specs.Vertex.{Crosses}
 use Rattle.survey.specs.Marks.{used}
 

@@ -4,11 +4,11 @@ use mathlib.Core.Bool.{cond}
 use mathlib.Core.List.{List, map}
 use Prim.Native.Nat.{ℕ, _+_}
 use lib.ListN.{length}
+use Rattle.paper.specs.Room.{neededSlots}
 use Rattle.lists.specs.Lists.{range, isIn, rank, over}
 use Rattle.paper.specs.declared.Sizes.{Sizes}
 use Rattle.paper.specs.Lattice.{Lattice, cubes, visited}
 use Rattle.paper.specs.Sheet.{Sheet, sheetOf}
-use Rattle.paper.specs.Build.{neededSlots}
 use Rattle.flood.specs.Flooded.{wordsOf, Beyond}
 use Rattle.measure.specs.declared.Counts.{Counts}
 

@@ -5,7 +5,7 @@ ghost use Prim.Native.Nat.{_≤_, _<_};
 ghost use lib.ListN.{length};
 ghost use Rattle.lists.specs.Lists.{cleared};
 ghost use Rattle.paper.specs.Lattice.{lattice, cubes};
-ghost use Rattle.paper.specs.Build.{needed, neededSlots};
+ghost use Rattle.paper.specs.Room.{needed, neededSlots};
 ghost use Rattle.paper.specs.Within.{Sized, Full};
 ghost use Rattle.measure.specs.Measured.{Measured};
 

@@ -120,7 +120,10 @@ pub fn begin(
 {
     let number = shape(samples, sizes, words, waiting, slots);
     if number != 0 {
-        return Ready { number: number, cube: 0 };
+        return Ready {
+            number: number,
+            cube: 0,
+        };
     }
     choose(samples, sizes, start)
 }

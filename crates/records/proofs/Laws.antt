@@ -15,7 +15,7 @@ use Rattle.lists.proofs.Runs.{along-snoc}
 use Rattle.lists.proofs.Stores.{stored-append, stored-length, stored-at}
 use Rattle.paper.specs.Lattice.{Lattice}
 use Rattle.paper.specs.Sheet.{vertexRecord}
-use Rattle.paper.specs.Build.{neededSlots}
+use Rattle.paper.specs.Room.{neededSlots}
 use Rattle.paper.specs.Check.{sameNumbers, recordOf}
 use Rattle.survey.specs.Marks.{used}
 use Rattle.measure.specs.Crossed.{AllCross}

@@ -19,7 +19,7 @@ use Rattle.lists.proofs.Closure.{bool-same}
 use Rattle.lists.proofs.Firsts.{first-before}
 use Rattle.paper.specs.Lattice.{Lattice}
 use Rattle.paper.specs.Sheet.{Sheet, vertexRecord}
-use Rattle.paper.specs.Build.{neededSlots}
+use Rattle.paper.specs.Room.{neededSlots}
 use Rattle.paper.specs.Check.{sameNumber, sameNumbers, recordOf, edgeOf, badRecord}
 use Rattle.paper.proofs.Records.{same-number, number-same, same-numbers, record-edge}
 use Rattle.survey.specs.Marks.{used}

@@ -7,7 +7,7 @@ use lib.Dec.{ltb}
 use Rattle.lists.specs.Lists.{range, first, stored}
 use Rattle.paper.specs.Lattice.{Lattice}
 use Rattle.paper.specs.Sheet.{vertexRecord}
-use Rattle.paper.specs.Build.{neededSlots}
+use Rattle.paper.specs.Room.{neededSlots}
 use Rattle.paper.specs.Check.{sameNumbers, recordOf, edgeOf}
 use Rattle.survey.specs.Marks.{used}
 

@@ -12,10 +12,10 @@ use Rattle.lists.proofs.Every.{all-weak, all-in, each-same, each-map}
 use Rattle.lists.proofs.Closure.{keep-same}
 use Rattle.paper.specs.Lattice.{Lattice, visited}
 use Rattle.paper.specs.Tables.{Tri, tri}
-use Rattle.paper.specs.Sheet.{cubeEdges, vertexEdges, vertexRecord, cubeTriangles, numbered, sheetOf, vertexWords, corners3, triangleWords}
-use Rattle.paper.specs.Build.{neededSlots}
+use Rattle.paper.specs.Sheet.{cubeEdges, vertexEdges, vertexRecord, numbered, sheetBy, sheetOf, vertexWords, corners3, triangleWords}
+use Rattle.paper.specs.Room.{neededSlots}
 use Rattle.paper.specs.Within.{Sized}
-use Rattle.paper.proofs.Listing.{Among, triangles-among, edges-exactly, edges-lt, visits-lt}
+use Rattle.paper.proofs.Listing.{Among, parts, sheet-edges, sheet-edges-lt, sheet-among, vertex-words}
 use Rattle.survey.specs.Marks.{used}
 use Rattle.measure.specs.Measured.{slotsOf}
 use Rattle.measure.proofs.Crossed.{slot-at, slot-used}
@@ -32,15 +32,15 @@ module _ (L : Lattice) (s : Sized (L .size)) (start : ℕ) (slots s₀ : List �
 
   -- the used slots are those of the vertices
   pub used-edges : usedFrom slots 0 n ≡ es
-  unfolding usedFrom sheetOf vertexEdges
+  unfolding usedFrom sheetOf sheetBy vertexEdges
   used-edges =
       let M = each (cubeEdges L) (visited L start) in
       keep-same (used slots) (isIn M) (range 0 n)
-      (λ k t. slot-used L s start slots s₀ e k (omega (arith, range-in 0 n k t)) ∙ edges-exactly L s (visited L start) (visits-lt L s start) k)
+      (λ k t. slot-used L s start slots s₀ e k (omega (arith, range-in 0 n k t)) ∙ sheet-edges L s start k)
 
-  pub records-are : recordsFrom L slots 0 n ≡ vertexWords L (sheetOf L start)
-  unfolding recordsFrom vertexWords
-  records-are = ap (each (vertexRecord L)) used-edges
+  pub records-are : recordsFrom L slots 0 n ≡ vertexWords (sheetOf L start)
+  unfolding recordsFrom
+  records-are = ap (each (vertexRecord L)) used-edges ∙ sym (vertex-words L start)
 
   number-is : (k : ℕ) → k < n → T (isIn es k) → numberOf slots k ≡ rank es k
   unfolding numberOf
@@ -50,17 +50,16 @@ module _ (L : Lattice) (s : Sized (L .size)) (start : ℕ) (slots s₀ : List �
 
   -- the numbers of the sheet's triangles
   pub words-are : (ts : List Tri) → ts ≡ sheetOf L start .byEdge → wordsFor slots ts ≡ triangleWords (sheetOf L start)
-  unfolding wordsFor triangleWords sheetOf
+  unfolding wordsFor triangleWords
   words-are ts q =
-      let vs = visited L start in
-      let bs = each (cubeTriangles L) vs in
+      let bs = sheetOf L start .byEdge in
       ap (each (λ t. corners3 (byNumber slots t))) q
       ∙ (each-same (λ t. corners3 (byNumber slots t)) (λ t. corners3 (numbered es t)) bs
-      (all-weak (Among es) (λ t. corners3 (byNumber slots t) ≡ corners3 (numbered es t)) (λ t h. ap corners3 (triangle-is t h)) bs (triangles-among L s start))
-      ∙ sym (each-map corners3 (numbered es) bs))
+      (all-weak (Among es) (λ t. corners3 (byNumber slots t) ≡ corners3 (numbered es t)) (λ t h. ap corners3 (triangle-is t h)) bs (sheet-among L s start))
+      ∙ sym (ap (each corners3) (parts L start .triangles) ∙ each-map corners3 (numbered es) bs))
     where
       lt : (k : ℕ) → T (isIn es k) → k < n
-      lt k t = all-in (λ e. e < n) es (edges-lt L (visited L start)) k t
+      lt k t = all-in (λ e. e < n) es (sheet-edges-lt L start) k t
 
       triangle-is : (t : Tri) → Among es t → byNumber slots t ≡ numbered es t
       triangle-is t h =

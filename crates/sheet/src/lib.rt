@@ -8,7 +8,8 @@ ghost use Prim.Native.Nat.{_*_, _/_, _≤_};
 ghost use lib.ListN.{length};
 ghost use Rattle.paper.specs.Lattice.{lattice, cubes};
 ghost use Rattle.paper.specs.Tests.{judge};
-ghost use Rattle.paper.specs.Build.{lent, needed, neededSlots, roomTests, outputAfter, Builds};
+ghost use Rattle.paper.specs.Room.{work, needed, neededSlots, roomTests, outputAfter};
+ghost use Rattle.paper.specs.Build.{lent, Builds};
 ghost use Rattle.paper.specs.Within.{Full};
 ghost use Rattle.survey.specs.Marks.{trianglesUpto};
 ghost use Rattle.measure.specs.Crossed.{AllCross};
@@ -61,7 +62,10 @@ pub fn build(
     waiting: &mut [u32],
     slots: &mut [u32],
 ) -> Built
-    ensures { λ r. ⌜ Builds (lattice sizes (now (samples .entry))) start (lent (now (vertices .entry)) (now (triangles .entry)) (now (words .entry)) (now (waiting .entry)) (now (slots .entry))) r (lent (now (vertices .exit)) (now (triangles .exit)) (now (words .exit)) (now (waiting .exit)) (now (slots .exit))) ⌝ }
+    ensures { λ r.
+        let before = lent (now (vertices .entry)) (now (triangles .entry)) (work (now (words .entry)) (now (waiting .entry)) (now (slots .entry))) in
+        let after = lent (now (vertices .exit)) (now (triangles .exit)) (work (now (words .exit)) (now (waiting .exit)) (now (slots .exit))) in
+        ⌜ Builds (lattice sizes (now (samples .entry))) start before r after ⌝ }
 {
     let b = ready::begin(
         samples,

@@ -14,7 +14,7 @@ use Rattle.paper.specs.declared.Sizes.{Sizes}
 use Rattle.paper.specs.declared.Verdict.{Verdict}
 use Rattle.paper.specs.Lattice.{axes}
 use Rattle.paper.specs.Tests.{Test, test, judge, verdict}
-use Rattle.paper.specs.Build.{roomTests, outputAfter}
+use Rattle.paper.specs.Room.{roomTests, outputAfter}
 use Rattle.paper.specs.File.{signed32, contentOf, trailerAt, fileLength, fileBytes, firstBad, indexTest, limits, writeVerdict, wrote, Writes, fileV, fileT, fileSizes, fileVertices, fileTriangles, fileTests, readVerdict, got, Reads}
 use Rattle.paper.proofs.Judged.{Numbered, Passed, numbered-both, passed-both, judge-all, judge-none, passed-judge, sized, sized-axes}
 use Rattle.lists.proofs.Stores.{sets-front}

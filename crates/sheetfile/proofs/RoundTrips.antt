@@ -15,7 +15,7 @@ use Rattle.paper.specs.declared.Verdict.{Verdict}
 use Rattle.paper.specs.declared.Wrote.{Wrote}
 use Rattle.paper.specs.declared.Got.{Got}
 use Rattle.paper.specs.Tests.{verdict}
-use Rattle.paper.specs.Build.{vertexRoom, triangleRoom, outputAfter}
+use Rattle.paper.specs.Room.{vertexRoom, triangleRoom, outputAfter}
 use Rattle.paper.specs.File.{contentOf, trailerAt, fileLength, fileBytes, writeVerdict, wrote, Writes, fileV, fileT, fileSizes, fileVertices, fileTriangles, fileTests, readVerdict, got, Reads}
 use Rattle.paper.proofs.Judged.{judge-past}
 use Rattle.codec.specs.Words.{Bytes, Words}

@@ -12,7 +12,7 @@ ghost use lib.ListN.{length};
 ghost use lib.Seq.{sets};
 ghost use Rattle.lists.specs.Lists.{over};
 ghost use Rattle.paper.specs.Tests.{judge};
-ghost use Rattle.paper.specs.Build.{roomTests};
+ghost use Rattle.paper.specs.Room.{roomTests};
 ghost use Rattle.paper.specs.Within.{Sized};
 ghost use Rattle.paper.specs.File.{contentOf, fileBytes, firstBad, limits, writeVerdict, Writes, fileV, fileT, fileTests, Reads};
 ghost use Rattle.sheetfile.specs.Taken.{countBytes, sizeBytes, Writable};

@@ -18,7 +18,7 @@ use Rattle.paper.specs.declared.Sizes.{Sizes}
 use Rattle.paper.specs.declared.Place.{Place}
 use Rattle.paper.specs.Lattice.{Lattice, sampleNo, airAt, corner, cubeAt}
 use Rattle.paper.specs.Tables.{Ends, Tri, ends, tet, tri, tets, rows, tetEdges, kinds, low, joins, kindOf}
-use Rattle.paper.specs.Sheet.{edgeNo, split, cubeEdges, weight, rowOf, rowAt, tetEdge, triEdges, cubeTriangles, corners3}
+use Rattle.paper.specs.Sheet.{edgeNo, split, cubeEdges, weight, rowOf, rowAt, tetEdge, triEdges, trianglesAt, cubeTriangles, corners3}
 use Rattle.paper.specs.Within.{Sized}
 use Rattle.paper.proofs.Tables.{kind-lt}
 use Rattle.lattice.specs.Steps.{cornerStep}
@@ -116,7 +116,7 @@ module _ (L : Lattice) (p : Place) where
   weigh true n = omega arith
   weigh false n = omega arith
 
-  pub row-by : (t : ℕ) → t < 6 → rowBy (patternAt L p) t ≡ rowAt L p (tetAt t)
+  pub row-by : (t : ℕ) → t < 6 → rowBy (patternAt L p) t ≡ rowAt (airAt L) p (tetAt t)
   unfolding rowBy rowAt rowOf tetCorner
   row-by t h =
       let bit : (j : ℕ) → j < 4 → bitOf (patternAt L p) (tetCorner t j) ≡ weight (airAt L (corner p (tetCorner t j))) 1 =
@@ -133,17 +133,17 @@ module _ (L : Lattice) (p : Place) where
       )
 
   -- the triangles of one tetrahedron
-  part : (t : ℕ) → t < 6 → rowTriangles z base t (rowBy (patternAt L p) t) ≡ map (triEdges z p (tetAt t)) (getD rows (rowAt L p (tetAt t)) [])
+  part : (t : ℕ) → t < 6 → rowTriangles z base t (rowBy (patternAt L p) t) ≡ map (triEdges z p (tetAt t)) (getD rows (rowAt (airAt L) p (tetAt t)) [])
   unfolding rowTriangles triEdges tetEdge tetStep tetEnds
   part t h =
       let e : (j : ℕ) → base + edgeStep z (tetEnds t j) ≡ edgeNo z p (tetEnds t j) = λ j. sym (edge-by (tetEnds t j)) in
       ap (rowTriangles z base t) (row-by t h)
-      ∙ map-same _ _ (λ g i. tri (e (g .a - 1) i) (e (g .b - 1) i) (e (g .c - 1) i)) (getD rows (rowAt L p (tetAt t)) [])
+      ∙ map-same _ _ (λ g i. tri (e (g .a - 1) i) (e (g .b - 1) i) (e (g .c - 1) i)) (getD rows (rowAt (airAt L) p (tetAt t)) [])
 
-  pub triangles-at : trianglesBy z base (patternAt L p) ≡ each (λ t. map (triEdges z p t) (getD rows (rowAt L p t) [])) tets
+  pub triangles-at : trianglesBy z base (patternAt L p) ≡ each (λ t. map (triEdges z p t) (getD rows (rowAt (airAt L) p t) [])) tets
   unfolding trianglesBy tets tetAt
   triangles-at =
-      each-same (λ t. rowTriangles z base t (rowBy (patternAt L p) t)) (λ t. map (triEdges z p (tetAt t)) (getD rows (rowAt L p (tetAt t)) [])) (range 0 6)
+      each-same (λ t. rowTriangles z base t (rowBy (patternAt L p) t)) (λ t. map (triEdges z p (tetAt t)) (getD rows (rowAt (airAt L) p (tetAt t)) [])) (range 0 6)
       (part 0 (omega arith), (part 1 (omega arith), (part 2 (omega arith), (part 3 (omega arith), (part 4 (omega arith), (part 5 (omega arith), tt))))))
 
 -- ── the 19 edges are those of the tetrahedra ──
@@ -266,7 +266,7 @@ module _ (L : Lattice) (p : Place) (n : ℕ) where
 -- by the cube's number
 module _ (L : Lattice) (k : ℕ) where
   pub cube-triangles-by : trianglesBy (L .size) (7 * sampleNo (L .size) (cubeAt (L .size) k)) (patternAt L (cubeAt (L .size) k)) ≡ cubeTriangles L k
-  unfolding cubeTriangles
+  unfolding cubeTriangles trianglesAt
   cube-triangles-by = triangles-at L (cubeAt (L .size) k)
 
   pub cube-edges-by : (n : ℕ)

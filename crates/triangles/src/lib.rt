@@ -9,7 +9,7 @@ ghost use lib.Seq.{sets};
 ghost use Rattle.lists.specs.Lists.{over};
 ghost use Rattle.paper.specs.Lattice.{cubes};
 ghost use Rattle.paper.specs.Sheet.{corners3};
-ghost use Rattle.paper.specs.Build.{neededSlots};
+ghost use Rattle.paper.specs.Room.{neededSlots};
 ghost use Rattle.paper.specs.Within.{Sized};
 ghost use Rattle.tetra.specs.Cut.{triOf, tetCorners, rowSteps, rowTriangles, trianglesBy};
 ghost use Rattle.survey.specs.Marks.{trianglesWord, trianglesUpto};

@@ -7,8 +7,8 @@ ghost use lib.ListN.{length};
 ghost use lib.Seq.{sets};
 ghost use Rattle.lists.specs.Lists.{over};
 ghost use Rattle.paper.specs.Lattice.{lattice, sampleNo};
+ghost use Rattle.paper.specs.Room.{neededSlots};
 ghost use Rattle.paper.specs.Within.{Full, SampleIn};
-ghost use Rattle.paper.specs.Build.{neededSlots};
 ghost use Rattle.measure.specs.Crossed.{AllCross};
 ghost use Rattle.vertices.specs.Records.{usedFrom, recordsFrom, AnchorCrosses};
 

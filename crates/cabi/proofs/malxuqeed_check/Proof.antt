@@ -3,7 +3,8 @@ use mathlib.Core.Path.{subst}
 use denote.Ref.{now}
 use Rattle.paper.specs.declared.Start.{Start}
 use Rattle.paper.specs.Lattice.{lattice}
-use Rattle.paper.specs.Check.{work, Checks}
+use Rattle.paper.specs.Room.{work}
+use Rattle.paper.specs.Check.{Checks}
 use borrow.Author.Needs.{needs}
 use Rattle.cabi.proofs.malxuqeed_check.Statement.{statement}
 use Rattle.cabi.proofs.malxuqeed_check.Tie as tie

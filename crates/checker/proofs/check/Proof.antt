@@ -9,9 +9,10 @@ use denote.Ref.{now}
 use Rattle.paper.specs.declared.Verdict.{Verdict}
 use Rattle.paper.specs.Lattice.{Lattice, lattice}
 use Rattle.paper.specs.Tests.{judge}
-use Rattle.paper.specs.Build.{startOf, sampleTests, clears}
+use Rattle.paper.specs.Room.{clears, Work, work}
+use Rattle.paper.specs.Build.{startOf, sampleTests}
 use Rattle.paper.specs.File.{fileSizes, fileTests}
-use Rattle.paper.specs.Check.{Work, work, sameSizes}
+use Rattle.paper.specs.Check.{sameSizes}
 use Rattle.paper.proofs.Passing.{sample-answer, sample-keeps, file-keeps}
 use Rattle.layout.proofs.Passing.{laid-out}
 use Rattle.ready.specs.Ready.{Begins}

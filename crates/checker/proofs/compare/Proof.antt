@@ -4,9 +4,8 @@ use mathlib.Core.List.{List}
 use Prim.Native.Nat.{ℕ}
 use denote.Ref.{now}
 use Rattle.paper.specs.Lattice.{Lattice, lattice}
-use Rattle.paper.specs.Build.{needed, neededSlots}
+use Rattle.paper.specs.Room.{needed, neededSlots, Work, work}
 use Rattle.paper.specs.File.{fileV, fileT, fileVertices, fileTriangles}
-use Rattle.paper.specs.Check.{Work, work}
 use Rattle.flood.specs.Flooded.{Beyond}
 use Rattle.flood.proofs.Laws.{beyond-refl}
 use Rattle.records.specs.Records.{firstBadIn as firstBadRecord}

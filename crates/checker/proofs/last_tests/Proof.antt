@@ -4,10 +4,9 @@ use mathlib.Core.List.{List}
 use Prim.Native.Nat.{ℕ}
 use native.Mathlib.Omega.{arith}
 use denote.Ref.{now}
+use Rattle.paper.specs.Room.{needed, Work, work}
 use Rattle.lists.specs.Lists.{cleared}
 use Rattle.paper.specs.Lattice.{Lattice, lattice}
-use Rattle.paper.specs.Build.{needed}
-use Rattle.paper.specs.Check.{Work, work}
 use Rattle.checker.specs.Checked.{Roomy}
 use Rattle.checker.proofs.Verdicts.{comparable, same-answer, cleaned}
 use borrow.Author.Needs.{needs}

@@ -2,7 +2,7 @@
 use Rattle.paper.specs.Tables.{kinds}
 use Rattle.sides.specs.Pattern.{digitOf}
 use Rattle.sides.proofs.Digits.{digit-is}
-use Rattle.crossing.specs.Vertex.{endsOf}
+use Rattle.paper.specs.Sheet.{endsOf}
 use borrow.Author.Needs.{needs}
 use Rattle.crossing.proofs.second_end.Statement.{statement}
 use Rattle.crossing.proofs.second_end.Tie as tie

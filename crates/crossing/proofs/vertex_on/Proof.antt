@@ -7,10 +7,9 @@ use mir.Facts.{toZ-ofZ}
 use mir.Syntax.{w16}
 use denote.Ref.{now}
 use Rattle.paper.specs.Lattice.{Lattice, lattice, air, valueAt, airAt, corner}
-use Rattle.paper.specs.Sheet.{recordAt}
+use Rattle.paper.specs.Sheet.{endsOf, recordAt}
 use Rattle.paper.specs.Within.{SampleIn}
 use Rattle.lattice.proofs.Laws.{samples-few}
-use Rattle.crossing.specs.Vertex.{endsOf}
 use Rattle.crossing.proofs.Records.{near, first-air, first-solid, record-air, record-solid}
 use Rattle.crossing.proofs.vertex_on.Statement.{statement}
 use Rattle.crossing.proofs.vertex_on.Tie as tie

@@ -10,7 +10,7 @@ use denote.Ref.{now}
 use borrow.Author.Count.{below-more}
 use Rattle.lists.proofs.Firsts.{first-found, first-missing}
 use Rattle.paper.specs.Lattice.{Lattice, lattice}
-use Rattle.paper.specs.Build.{neededSlots}
+use Rattle.paper.specs.Room.{neededSlots}
 use Rattle.paper.specs.File.{fileV, fileVertices}
 use Rattle.measure.specs.Crossed.{AllCross}
 use Rattle.records.specs.Records.{goodEdge, slotsAfter, badIn, firstBadIn}

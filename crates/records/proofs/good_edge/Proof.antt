@@ -15,7 +15,7 @@ use Rattle.lists.proofs.Member.{eq→T}
 use Rattle.paper.specs.declared.Place.{Place}
 use Rattle.paper.specs.Lattice.{Lattice, lattice, sampleNo}
 use Rattle.paper.specs.Sheet.{vertexRecord}
-use Rattle.paper.specs.Build.{neededSlots}
+use Rattle.paper.specs.Room.{neededSlots}
 use Rattle.paper.specs.File.{fileVertices}
 use Rattle.paper.specs.Check.{sameNumbers, recordOf, edgeOf}
 use Rattle.paper.proofs.Numbers.{sample-back}

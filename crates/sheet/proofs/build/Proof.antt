@@ -9,7 +9,8 @@ use lib.ListN.{length}
 use denote.Ref.{now}
 use Rattle.paper.specs.Lattice.{Lattice, lattice}
 use Rattle.paper.specs.Tests.{judge}
-use Rattle.paper.specs.Build.{Lent, lent, sampleTests, outputAfter}
+use Rattle.paper.specs.Room.{work, lengths, outputAfter}
+use Rattle.paper.specs.Build.{Lent, lent, sampleTests}
 use Rattle.paper.proofs.Passing.{room-tests}
 use Rattle.ready.specs.Ready.{Begins}
 use Rattle.measure.specs.declared.Counts.{Counts}
@@ -24,16 +25,18 @@ abbrev L : tie.Start → Lattice
 L s = lattice (s .args .sizes) (now (s .args .samples))
 
 abbrev before : tie.Start → Lent
-before s = lent (now (s .args .vertices)) (now (s .args .triangles)) (now (s .args .words)) (now (s .args .waiting)) (now (s .args .slots))
+before s =
+    lent (now (s .args .vertices)) (now (s .args .triangles)) (work (now (s .args .words)) (now (s .args .waiting)) (now (s .args .slots)))
 
--- tests 1 to 5 are passed
+-- where the function begins, from where tests 1 to 5 are passed
+abbrev start : tie.Else1 → tie.Start
+start c = c .before .before .before .before .before .before .before
+
 module _ (c : tie.Else1) where
-  begins : let s = c .before .before .before .before .before .before .before in
-      Begins (L s) (s .args .start) (length (now (s .args .words))) (length (now (s .args .waiting))) (length (now (s .args .slots))) (c .before .before .begin .result .cube)
+  begins : Begins (L (start c)) (start c .args .start) (lengths (before (start c) .work)) (c .before .before .begin .result .cube)
   begins = c .before .before .begin .ensures .begins (c .if1 .left)
 
-  passed : let s = c .before .before .before .before .before .before .before in
-      judge (sampleTests (L s) (s .args .start) (length (now (s .args .words))) (length (now (s .args .waiting))) (length (now (s .args .slots)))) .number ≡ 0
+  passed : judge (sampleTests (L (start c)) (start c .args .start) (lengths (before (start c) .work))) .number ≡ 0
   passed = sym (c .before .before .begin .ensures .answer) ∙ c .if1 .left
 
 begin-requires : tie.Need-begin-requires
@@ -47,7 +50,7 @@ returns c =
 measure-requires : tie.Need-measure-requires
 measure-requires c κs =
     let b = begins (c .before .before .before) in
-    ((b .full, b .below), (b .words-fit, b .waiting-fit, b .slots-fit))
+    ((b .full, b .below), (b .roomy .words, b .roomy .waiting, b .roomy .slots))
 
 room-number-requires : tie.Need-room-number-requires
 room-number-requires c κs = search needs
@@ -68,7 +71,7 @@ put-sheet-requires c κs =
     let fits = room-tests (found .vertices) (found .triangles) (length (now (s .args .vertices)) / 4) (length (now (s .args .triangles)) / 3) in (
       (b .full, all-cross (L s) (b .full .sized) k _ _ (m .numbered)),
       (
-        (omega (arith, b .words-fit, kept), omega (arith, b .slots-fit, kept)),
+        (omega (arith, b .roomy .words, kept), omega (arith, b .roomy .slots, kept)),
         (
           (λ e.
               omega (arith, fits (sym (n .ensures) ∙ e) .0, ap length (used-edges (L s) (b .full .sized) k _ _ (m .numbered)), ap (λ (c : Counts). c .vertices) (m .counts))),
@@ -83,7 +86,7 @@ clear-work-requires c κs =
     let at-measure = c .before .before .before .before .before .before .before .before .before .before .before .before .before .before .before .before .before .before in
     let b = begins (at-measure .before .before .before .before) in
     let kept = at-measure .measure .kept in
-    (b .full .sized, omega (arith, b .words-fit, kept), omega (arith, b .waiting-fit, kept), omega (arith, b .slots-fit, kept))
+    (b .full .sized, omega (arith, b .roomy .words, kept), omega (arith, b .roomy .waiting, kept), omega (arith, b .roomy .slots, kept))
 
 same-length : tie.Need-same-length
 same-length c = search needs
@@ -115,8 +118,8 @@ returns-2 c =
     let number = at-room-number .room-number in
     let put = at-put-sheet .put-sheet .ensures in
     let clear = at-clear-work .clear-work .ensures in
-    settled (L s) (s .args .start) (before s) (passed e) k (b .is) (at-measure .measure .result) _ _ _ m _ _ _
-    (clear .0) (clear .1) (clear .2) (number .result) (number .ensures) _ _
+    settled (L s) (s .args .start) (before s) (passed e) k (b .is) (at-measure .measure .result) (work _ _ _) m (work _ _ _)
+    (λ i. work (clear .0 i) (clear .1 i) (clear .2 i)) (number .result) (number .ensures) _ _
     (put .0 ∙ ap (λ (l : List ℤ). outputAfter (number .result) l (now (s .args .vertices))) (records-are (L s) (b .full .sized) k _ _ (m .numbered)))
     (put .1 ∙ ap (λ (l : List ℕ). outputAfter (number .result) l (now (s .args .triangles))) (words-are (L s) (b .full .sized) k _ _ (m .numbered) _ (triangles-listed (L s) (b .full .sized) k _ _ (m .marked))))
 

@@ -2,7 +2,7 @@
 use borrow.Author.Needs.{needs}
 use borrow.Author.Tests.{ne-eqb, eq-eqb}
 use mathlib.Core.Path.{refl}
-use Rattle.paper.specs.Build.{outputAfter}
+use Rattle.paper.specs.Room.{outputAfter}
 use Rattle.sheet.proofs.put_sheet.Statement.{statement}
 use Rattle.sheet.proofs.put_sheet.Tie as tie
 

@@ -1,6 +1,6 @@
 -- Test by test. Assumes nothing.
 use borrow.Author.Tests.{lt-leb, le-leb}
-use Rattle.paper.specs.Build.{roomTests}
+use Rattle.paper.specs.Room.{roomTests}
 use Rattle.sheet.proofs.room_number.Statement.{statement}
 use Rattle.sheet.proofs.room_number.Tie as tie
 

@@ -10,7 +10,7 @@ use lib.Dec.{leb}
 use lib.ListN.{length}
 use Rattle.paper.specs.declared.Verdict.{Verdict}
 use Rattle.paper.specs.Tests.{Test, judge}
-use Rattle.paper.specs.Build.{roomTests}
+use Rattle.paper.specs.Room.{roomTests}
 use Rattle.paper.specs.File.{fileV, fileT, fileTests}
 use Rattle.paper.proofs.Judged.{judge-past, judge-stop}
 use Rattle.paper.proofs.Passing.{file-numbered}

@@ -11,8 +11,8 @@ use borrow.Author.Count.{below-more}
 use borrow.Author.Tests.{not-true, not-false}
 use Rattle.lists.proofs.Firsts.{first-found, first-missing}
 use Rattle.paper.specs.Lattice.{cubes}
+use Rattle.paper.specs.Room.{neededSlots}
 use Rattle.paper.specs.Within.{Below}
-use Rattle.paper.specs.Build.{neededSlots}
 use Rattle.paper.specs.File.{fileT, fileVertices, fileTriangles}
 use Rattle.paper.specs.Check.{triangleOf}
 use Rattle.tetra.specs.Cut.{triOf}
