@@ -9,7 +9,7 @@ use Rattle.paper.specs.Within.{Sized, Below}
 use Rattle.paper.specs.Tables.{Tri}
 use Rattle.paper.specs.Sheet.{Sheet, sheetOf}
 use Rattle.paper.proofs.Listing.{edges-unique, indices-below, indices-name}
-use Rattle.pairing.specs.Pairing.{Paired, outer, Demand3}
+use Rattle.pairing.specs.Pairing.{Paired, apart, Demand3}
 use Rattle.pairing.proofs.Names.{by-number, times-below}
 use Rattle.pairing.proofs.Sheets.{by-edge}
 use Rattle.pairing.proofs.Vertices.{one-vertex}
@@ -25,5 +25,5 @@ module _ (L : Lattice) (sized : Sized (L .size)) (start : ℕ) (inside : start <
       record {
         vertices = one-vertex L sized start inside;
         numbers = times-below (S .edges) u (S .triangles) below;
-        pairs = by-number (S .edges) u (S .triangles) below (subst (Paired (outer (L .size))) (sym (indices-name L sized start)) (by-edge L sized start inside));
+        pairs = by-number (S .edges) u (S .triangles) below (subst (Paired (apart L)) (sym (indices-name L sized start)) (by-edge L sized start inside));
       }

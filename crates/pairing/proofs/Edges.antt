@@ -11,12 +11,11 @@ use Rattle.paper.specs.declared.Place.{Place}
 use Rattle.paper.specs.Lattice.{place, corner, sampleNo, sampleAt}
 use Rattle.paper.specs.Within.{SampleIn}
 use Rattle.paper.specs.Tables.{Ends, Tet, Tri, ends, tri, tets, rows, tetEdges, low, kindOf}
-use Rattle.paper.specs.Sheet.{edgeNo, tetEdge, triEdges, rowOf}
+use Rattle.paper.specs.Sheet.{edgeFrom, edgeNo, anchorOf, kindIn, tetEdge, triEdges, rowAt, rowOf, trianglesAt}
 use Rattle.paper.proofs.Numbers.{sample-place}
 use Rattle.paper.proofs.Tables.{kind-lt}
 use Rattle.paper.proofs.Listing.{named}
 use Rattle.pairing.specs.Pairing.{around}
-use Rattle.pairing.specs.Visitable.{trianglesAt}
 use Rattle.lists.proofs.Within.{map-each}
 use Rattle.pairing.proofs.Names.{namedArrow, around-named}
 use Rattle.pairing.proofs.Table.{code, codeAt, codeTri, trisIn, arrowsIn, Moved, Shape}
@@ -47,7 +46,7 @@ module _ (z : Sizes) (air : Place → Bool) (p : Place) where
   tris-number t (r ∷ l) = λ i. tri-number t r i ∷ tris-number t l i
 
   triangles-are : trianglesAt z air p ≡ map (named (number z p)) (trisIn (λ c. air (corner p c)))
-  unfolding trianglesAt trisIn
+  unfolding trianglesAt rowAt trisIn
   triangles-are =
       go tets
       ∙ sym (map-each (named (number z p)) (λ t. map (codeTri t) (getD rows (rowOf (air (corner p (t .a))) (air (corner p (t .b))) (air (corner p (t .c))) (air (corner p (t .d)))) [])) tets)
@@ -89,12 +88,12 @@ module _ (z : Sizes) where
     pub anchor : SampleIn z (corner m (u / 8))
     pub seven : u % 8 < 7
 
-  pub kind-of : {m : Place} {u : ℕ} → Edge m u → number z m u % 7 ≡ u % 8
+  pub kind-of : {m : Place} {u : ℕ} → Edge m u → kindIn (number z m u) ≡ u % 8
   unfolding number
   kind-of {m} {u} e = let h = e .seven in omega arith
 
-  pub anchor-of : {m : Place} {u : ℕ} → Edge m u → sampleAt z (number z m u / 7) ≡ corner m (u / 8)
-  unfolding number
+  pub anchor-of : {m : Place} {u : ℕ} → Edge m u → anchorOf z (number z m u) ≡ corner m (u / 8)
+  unfolding anchorOf number
   anchor-of {m} {u} e =
       let h = e .seven in
       let a : (7 * sampleNo z (corner m (u / 8)) + u % 8) / 7 ≡ sampleNo z (corner m (u / 8)) = omega arith in
@@ -109,10 +108,10 @@ module _ (z : Sizes) where
       → number z m u ≡ number z m′ u′ → number z m w ≡ number z m′ w′ → One m u w m′ u′ w′
   unfolding corner
   one-of {m} {m′} {u} {w} {u′} {w′} a b s c d t e f =
-      let p : corner m (u / 8) ≡ corner m′ (u′ / 8) = sym (anchor-of a) ∙ ap (λ (n : ℕ). sampleAt z (n / 7)) e ∙ anchor-of c in
-      let q : corner m (w / 8) ≡ corner m′ (w′ / 8) = sym (anchor-of b) ∙ ap (λ (n : ℕ). sampleAt z (n / 7)) f ∙ anchor-of d in
-      let k : u % 8 ≡ u′ % 8 = sym (kind-of a) ∙ ap (λ (n : ℕ). n % 7) e ∙ kind-of c in
-      let l : w % 8 ≡ w′ % 8 = sym (kind-of b) ∙ ap (λ (n : ℕ). n % 7) f ∙ kind-of d in
+      let p : corner m (u / 8) ≡ corner m′ (u′ / 8) = sym (anchor-of a) ∙ ap (anchorOf z) e ∙ anchor-of c in
+      let q : corner m (w / 8) ≡ corner m′ (w′ / 8) = sym (anchor-of b) ∙ ap (anchorOf z) f ∙ anchor-of d in
+      let k : u % 8 ≡ u′ % 8 = sym (kind-of a) ∙ ap kindIn e ∙ kind-of c in
+      let l : w % 8 ≡ w′ % 8 = sym (kind-of b) ∙ ap kindIn f ∙ kind-of d in
       let x = same-axis (m .x) (m′ .x) (u / 8 % 2) (w / 8 % 2) (u′ / 8 % 2) (w′ / 8 % 2) (ap (λ (r : Place). r .x) p) (ap (λ (r : Place). r .x) q) (s .x) (t .x) in
       let y = same-axis (m .y) (m′ .y) (u / 8 / 2 % 2) (w / 8 / 2 % 2) (u′ / 8 / 2 % 2) (w′ / 8 / 2 % 2) (ap (λ (r : Place). r .y) p) (ap (λ (r : Place). r .y) q) (s .y) (t .y) in
       let v = same-axis (m .z) (m′ .z) (u / 8 / 4) (w / 8 / 4) (u′ / 8 / 4) (w′ / 8 / 4) (ap (λ (r : Place). r .z) p) (ap (λ (r : Place). r .z) q) (s .z) (t .z) in

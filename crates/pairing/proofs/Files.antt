@@ -12,7 +12,7 @@ use Rattle.lists.proofs.Runs.{length-along, at-along}
 use Rattle.paper.specs.declared.Start.{Start}
 use Rattle.paper.specs.Lattice.{Lattice}
 use Rattle.paper.specs.Tables.{Tri, tri}
-use Rattle.paper.specs.Sheet.{Sheet, sheetOf}
+use Rattle.paper.specs.Sheet.{Sheet, vertexRecord, sheetOf}
 use Rattle.paper.specs.Build.{startOf}
 use Rattle.paper.specs.File.{fileV, fileT, fileVertices, fileTriangles, badTriangle}
 use Rattle.paper.specs.Check.{turned, edgeOf, cornerOf, triangleOf}
@@ -21,7 +21,7 @@ use Rattle.paper.proofs.Tested.{Recorded}
 use Rattle.paper.proofs.Passing.{Accepted}
 use Rattle.paper.specs.Within.{Below}
 use Rattle.paper.proofs.Listing.{named}
-use Rattle.pairing.specs.Pairing.{outer, Paired, OneVertex, Demand3, fileEdges, fileCorner, fileCorners}
+use Rattle.pairing.specs.Pairing.{apart, Paired, OneVertex, Demand3, fileEdges, fileCorner, fileCorners}
 use Rattle.lists.proofs.Within.{members, list-in, in-list, member-any, any-member, below, in-run, map-in}
 use Rattle.lists.proofs.Counts.{pick, along-unique, range-unique, count-unique, Unique}
 use Rattle.pairing.proofs.Names.{few-times, paired-same, by-number, times-below}
@@ -44,7 +44,7 @@ module _ (L : Lattice) (s : Start) (bs : List ℕ) (acc : Accepted L s bs) where
 
   -- ── records ──
 
-  recorded : (i : ℕ) → i < fileV bs → Recorded L S vs i
+  recorded : (i : ℕ) → i < fileV bs → Recorded (vertexRecord L) S vs i
   recorded = acc .compared .records
 
   is : (i : ℕ) (h : i < fileV bs) → edgeOf vs i ≡ pos (recorded i h .edge)
@@ -84,11 +84,11 @@ module _ (L : Lattice) (s : Start) (bs : List ℕ) (acc : Accepted L s bs) where
 
   -- ── triangles ──
 
-  sheet-paired : Paired (outer (L .size)) (S .byEdge)
+  sheet-paired : Paired (apart L) (S .byEdge)
   sheet-paired = by-edge L (acc .started .sizes) start (acc .started .start)
 
-  file-paired : Paired (outer (L .size)) (map (triangleOf vs ts) (range 0 (fileT bs)))
-  file-paired = paired-same (same-times (triangleOf vs ts) (range 0 (fileT bs)) (range-unique 0 (fileT bs)) (S .byEdge) (few-times sheet-paired) sound full apart) sheet-paired
+  file-paired : Paired (apart L) (map (triangleOf vs ts) (range 0 (fileT bs)))
+  file-paired = paired-same (same-times (triangleOf vs ts) (range 0 (fileT bs)) (range-unique 0 (fileT bs)) (S .byEdge) (few-times sheet-paired) sound full new) sheet-paired
     where
       sound : (i : ℕ) → In i (range 0 (fileT bs)) → (u : Tri) × In u (S .byEdge) × Turned (triangleOf vs ts i) u
       sound i j =
@@ -100,8 +100,8 @@ module _ (L : Lattice) (s : Start) (bs : List ℕ) (acc : Accepted L s bs) where
           let w = acc .compared .full .triangles u j in
           (w .0, in-run (fileT bs) (w .0) (w .1), is-turned u (triangleOf vs ts (w .0)) (w .2))
 
-      apart : (i j : ℕ) → In i (range 0 (fileT bs)) → In j (range 0 (fileT bs)) → j < i → Turned (triangleOf vs ts i) (triangleOf vs ts j) → ⊥
-      apart i j a b l t = acc .compared .triangles i (below (fileT bs) i a) .new j l (turned-is t)
+      new : (i j : ℕ) → In i (range 0 (fileT bs)) → In j (range 0 (fileT bs)) → j < i → Turned (triangleOf vs ts i) (triangleOf vs ts j) → ⊥
+      new i j a b l t = acc .compared .triangles i (below (fileT bs) i a) .new j l (turned-is t)
 
   -- ── by the numbers of the records ──
 
@@ -153,5 +153,5 @@ module _ (L : Lattice) (s : Start) (bs : List ℕ) (acc : Accepted L s bs) where
   demand = record {
     vertices = vertices;
     numbers = times-below (fileEdges bs) distinct (fileCorners bs) corners-below;
-    pairs = by-number (fileEdges bs) distinct (fileCorners bs) corners-below (subst (Paired (outer (L .size))) (sym named-are) file-paired);
+    pairs = by-number (fileEdges bs) distinct (fileCorners bs) corners-below (subst (Paired (apart L)) (sym named-are) file-paired);
   }

@@ -15,7 +15,7 @@ use Rattle.paper.specs.declared.Sizes.{Sizes}
 use Rattle.paper.specs.declared.Place.{Place}
 use Rattle.paper.specs.Lattice.{place, corner, inLattice}
 use Rattle.paper.specs.Within.{CubeIn}
-use Rattle.paper.specs.Tables.{ends, kinds}
+use Rattle.paper.specs.Sheet.{anchorOf, kindIn, endsOf, firstEnd, secondEnd}
 use Rattle.paper.proofs.Visits.{in-lattice, lattice-in}
 use Rattle.pairing.specs.Pairing.{edgeEnds, inOuterFace, outer}
 use Rattle.pairing.specs.Visitable.{meet, shared, inUnshared, unshared}
@@ -62,10 +62,10 @@ told m b c =
     λ i. place (x i) (y i) (w i)
 
 ends-are : (z : Sizes) {m : Place} {u : ℕ} → Edge z m u → edgeEnds z (number z m u) ≡ map (add m) (span u)
-unfolding edgeEnds span
+unfolding edgeEnds firstEnd secondEnd endsOf span
 ends-are z {m} {u} e =
-    let k = getD kinds (u % 8) (ends 0 0) in
-    (λ i. corner (anchor-of z e i) (getD kinds (kind-of z e i) (ends 0 0) .a) ∷ corner (anchor-of z e i) (getD kinds (kind-of z e i) (ends 0 0) .b) ∷ [])
+    let k = endsOf (u % 8) in
+    (λ i. corner (anchor-of z e i) (endsOf (kind-of z e i) .a) ∷ corner (anchor-of z e i) (endsOf (kind-of z e i) .b) ∷ [])
     ∙ (λ i. told m (u / 8) (k .a) i ∷ told m (u / 8) (k .b) i ∷ [])
 
 -- which of three faces it is, by the axis that is not left

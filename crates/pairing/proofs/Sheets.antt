@@ -12,14 +12,15 @@ use Rattle.lists.proofs.Rising.{keep-rising}
 use Rattle.lists.proofs.Closure.{closed}
 use Rattle.paper.specs.declared.Sizes.{Sizes}
 use Rattle.paper.specs.declared.Place.{Place}
-use Rattle.paper.specs.Lattice.{Lattice, airAt, cubes, cubeNo, cubeAt, corner, mixed, mixedAt, inLattice, Face, faces, stepOver, steps, visited}
+use Rattle.paper.specs.Lattice.{Lattice, airAt, cubes, cubeNo, cubeAt, corner, mixed, mixedAt, visitable, Face, faces, stepOver, steps, visited}
 use Rattle.paper.specs.Within.{Sized, CubeIn}
 use Rattle.paper.specs.Tables.{Tri}
-use Rattle.paper.specs.Sheet.{rowAt, cubeTriangles, sheetOf}
+use Rattle.paper.specs.Sheet.{trianglesAt, cubeTriangles, sheetOf}
 use Rattle.paper.proofs.Numbers.{cube-place, cube-inside, cube-back}
-use Rattle.paper.proofs.Visits.{in-lattice, lattice-in, step-lt, visited-kept, visited-lt}
-use Rattle.pairing.specs.Pairing.{times, outer, Paired}
-use Rattle.pairing.specs.Visitable.{trianglesAt, unshared}
+use Rattle.paper.proofs.Listing.{parts}
+use Rattle.paper.proofs.Visits.{visitable-in, in-visitable, step-lt, visited-kept, visited-lt}
+use Rattle.pairing.specs.Pairing.{times, outer, apart, Paired}
+use Rattle.pairing.specs.Visitable.{unshared}
 use Rattle.lists.proofs.Within.{list-in, in-list, member-any, map-in}
 use Rattle.lists.proofs.Counts.{map-unique, rising-unique, Unique}
 use Rattle.pairing.proofs.Table.{flat}
@@ -62,16 +63,16 @@ module _ (L : Lattice) (sized : Sized (L .size)) (start : ℕ) (inside : start <
   places = map (cubeAt z) (visited L start)
 
   step-in : (n : ℕ) (f : Face) → In f (faces (cubeAt z n)) → T (f .there) → T (mixed (map (λ c. airAt L (corner (cubeAt z n) c)) (f .corners)))
-      → T (inLattice z (f .beyond)) → T (isIn (steps L n) (cubeNo z (f .beyond)))
+      → T (visitable L (f .beyond)) → T (isIn (steps L n) (cubeNo z (f .beyond)))
   unfolding steps stepOver mixedAt
   step-in n f i h t k =
       let p = cubeAt z n in
       let q = cubeNo z (f .beyond) in
-      let b = f .there && inLattice z (f .beyond) && mixedAt L p (f .corners) in
+      let b = f .there && visitable L (f .beyond) && mixedAt L p (f .corners) in
       subst T (sym (any-each (eqb q) (stepOver L p) (faces p)))
       (member-any (λ g. isIn (stepOver L p g) q) i
       (subst (λ (c : Bool). T (isIn (consIf c q []) q))
-      (sym (T→eq b (both3 (f .there) (inLattice z (f .beyond)) (mixedAt L p (f .corners)) h k t))) (or-left (eqb q q) false (eqb-refl q))))
+      (sym (T→eq b (both3 (f .there) (visitable L (f .beyond)) (mixedAt L p (f .corners)) h k t))) (or-left (eqb q q) false (eqb-refl q))))
 
   visited-step : (n k : ℕ) → In n (visited L start) → T (isIn (steps L n) k) → In k (visited L start)
   unfolding visited
@@ -79,34 +80,35 @@ module _ (L : Lattice) (sized : Sized (L .size)) (start : ℕ) (inside : start <
       in-list k (visited L start) (closed (steps L) (cubes z) start inside n k (list-in i) t (step-lt L n k t))
 
   -- they are as the general theorem asks
-  spread : Spread (airAt L) (inLattice z) places
+  spread : Spread (airAt L) (visitable L) places
   spread = record {
     distinct =
         map-unique (cubeAt z)
         (λ a b i j e. sym (cube-back z sized a (seen a i)) ∙ ap (cubeNo z) e ∙ cube-back z sized b (seen b j)) visited-unique;
-    inside = λ p i. lattice-in z p (cube p i);
+    inside = λ p i. in-visitable L p (cube p i);
     step = over;
   }
     where
       cube : (p : Place) → In p places → CubeIn z p
       cube p i = let m = map-in (cubeAt z) (visited L start) p i in subst (CubeIn z) (sym (m .2)) (cube-inside z sized (m .0) (seen (m .0) (m .1)))
 
-      over : (p : Place) (f : Face) → In p places → In f (faces p) → T (f .there) → T (mixed (map (λ c. airAt L (corner p c)) (f .corners))) → T (inLattice z (f .beyond))
+      over : (p : Place) (f : Face) → In p places → In f (faces p) → T (f .there) → T (mixed (map (λ c. airAt L (corner p c)) (f .corners))) → T (visitable L (f .beyond))
           → In (f .beyond) places
       over p f i j h t k =
           let m = map-in (cubeAt z) (visited L start) p i in
           let n = m .0 in
           let e : p ≡ cubeAt z n = m .2 in
-          let c = in-lattice z (f .beyond) k in
+          let c = visitable-in L (f .beyond) k in
           let g = step-in n f (subst (λ (q : Place). In f (faces q)) e j) h (subst (λ (q : Place). T (mixed (map (λ c. airAt L (corner q c)) (f .corners)))) e t) k in
           Memᴰ·cast (sym (cube-place z (f .beyond) (omega (arith, c .x)) (omega (arith, c .y)))) (in-map (cubeAt z) (visited-step n (cubeNo z (f .beyond)) (m .1) g))
 
   triangles-are : sheetOf L start .byEdge ≡ each (trianglesAt z (airAt L)) places
-  unfolding sheetOf cubeTriangles rowAt trianglesAt
-  triangles-are = sym (each-map (trianglesAt z (airAt L)) (cubeAt z) (visited L start))
+  unfolding cubeTriangles
+  triangles-are = parts L start .by-edge ∙ sym (each-map (trianglesAt z (airAt L)) (cubeAt z) (visited L start))
 
   -- document 01's sheet, by lattice edges
-  pub by-edge : Paired (outer z) (sheetOf L start .byEdge)
+  pub by-edge : Paired (apart L) (sheetOf L start .byEdge)
+  unfolding visitable
   by-edge =
-      subst (Paired (outer z)) (sym triangles-are)
-      (paired-where z (airAt L) (inLattice z) (in-lattice z) places spread (outer z) (λ e f s. outer-is z (airAt L) (s .known) (s .near)))
+      subst (Paired (apart L)) (sym triangles-are)
+      (paired-where z (airAt L) (visitable L) (visitable-in L) places spread (outer z) (λ e f s. outer-is z (airAt L) (s .known) (s .near)))

@@ -12,10 +12,9 @@ use Rattle.paper.specs.declared.Sizes.{Sizes}
 use Rattle.paper.specs.declared.Place.{Place}
 use Rattle.paper.specs.Lattice.{place, corner}
 use Rattle.paper.specs.Within.{SampleIn, CubeIn}
-use Rattle.paper.specs.Sheet.{rowOf}
+use Rattle.paper.specs.Sheet.{rowOf, trianglesAt}
 use Rattle.paper.proofs.Numbers.{corner-inside}
 use Rattle.pairing.specs.Pairing.{Arrow, around, isArrow}
-use Rattle.pairing.specs.Visitable.{trianglesAt}
 use Rattle.lists.proofs.Counts.{pick, count-map, count-same}
 use Rattle.pairing.proofs.Arrows.{is-arrow, arrow-is}
 use Rattle.pairing.proofs.Table.{Side, sideOf, same, is-same, same-is, sides, arrowsIn, sides-are, Good, good-at, Moved, Shape, Neat, neat-at, flat, Axis, across, lowRow, highRow}

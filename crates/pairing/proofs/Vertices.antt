@@ -9,7 +9,7 @@ use Rattle.lists.proofs.Counts.{count-unique}
 use Rattle.paper.specs.Lattice.{Lattice, cubes, visited}
 use Rattle.paper.specs.Within.{Sized}
 use Rattle.paper.specs.Sheet.{cubeEdges, sheetOf}
-use Rattle.paper.proofs.Listing.{edges-exactly, edges-unique, visits-lt}
+use Rattle.paper.proofs.Listing.{sheet-edges, edges-unique}
 use Rattle.paper.proofs.Visits.{visited-exactly}
 use Rattle.pairing.specs.Pairing.{OneVertex}
 
@@ -18,8 +18,7 @@ module _ (L : Lattice) (sized : Sized (L .size)) (start : ℕ) (inside : start <
   marked = each (cubeEdges L) (visited L start)
 
   exactly : (e : ℕ) → isIn (sheetOf L start .edges) e ≡ isIn marked e
-  unfolding sheetOf
-  exactly e = edges-exactly L sized (visited L start) (visits-lt L sized start) e
+  exactly = sheet-edges L sized start
 
   pub one-vertex : OneVertex L start (sheetOf L start .edges)
   one-vertex = record {

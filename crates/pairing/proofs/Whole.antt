@@ -14,7 +14,8 @@ use Rattle.paper.specs.declared.Place.{Place}
 use Rattle.paper.specs.Lattice.{place, corner, mixed, Face, faces}
 use Rattle.paper.specs.Within.{CubeIn}
 use Rattle.pairing.specs.Pairing.{around, isArrow, times}
-use Rattle.pairing.specs.Visitable.{trianglesAt, samePlace, shared}
+use Rattle.paper.specs.Sheet.{trianglesAt}
+use Rattle.pairing.specs.Visitable.{samePlace, shared}
 use Rattle.lists.proofs.Within.{same3, of-same3, T→false, each-each}
 use Rattle.lists.proofs.Counts.{count-each, sum, sum-one, sum-none, sum-some, Unique}
 use Rattle.pairing.proofs.Table.{same, sides, Good, flat, flat-cases, Axis, lowFace, highFace}

@@ -2,7 +2,7 @@
 use mathlib.Core.Path.{_≡_, refl}
 use mathlib.Core.Bool.{Bool, true, cond, _&&_, _||_}
 use mathlib.Core.List.{List, [], _∷_, _++_, map}
-use Prim.Native.Nat.{ℕ, _+_, _-_, _*_, _/_, _%_, _<_}
+use Prim.Native.Nat.{ℕ, _+_, _-_, _*_, _<_}
 use lib.IntN.{natAbs}
 use lib.Dec.{T, eqb}
 use lib.ListN.{length, getD}
@@ -10,8 +10,8 @@ use Rattle.lists.specs.Lists.{range, count, all, each, isIn}
 use Rattle.paper.specs.declared.Sizes.{Sizes}
 use Rattle.paper.specs.declared.Place.{Place}
 use Rattle.paper.specs.Lattice.{Lattice, sampleAt, corner, Visited}
-use Rattle.paper.specs.Tables.{Tri, tri, ends, kinds}
-use Rattle.paper.specs.Sheet.{cubeEdges}
+use Rattle.paper.specs.Tables.{Tri, tri, kinds}
+use Rattle.paper.specs.Sheet.{anchorOf, endsOf, firstEnd, secondEnd, cubeEdges}
 use Rattle.paper.specs.File.{fileV, fileT, fileVertices, fileTriangles}
 use Rattle.paper.specs.Check.{edgeOf}
 
@@ -34,12 +34,9 @@ isArrow m n d = eqb (d .from) m && eqb (d .to) n
 unfoldable pub times : List Tri → ℕ → ℕ → ℕ
 times ts m n = count (isArrow m n) (each around ts)
 
--- the samples at the ends of the lattice edge with a number, as its vertex record reads it
+-- the samples at the ends of the lattice edge with a number
 unfoldable pub edgeEnds : Sizes → ℕ → List Place
-edgeEnds z e =
-    let anchor = sampleAt z (e / 7) in
-    let k = getD kinds (e % 7) (ends 0 0) in
-    corner anchor (k .a) ∷ corner anchor (k .b) ∷ []
+edgeEnds z e = firstEnd z e ∷ secondEnd z e ∷ []
 
 -- on one axis all stand at its first sample, or all at its last
 unfoldable pub inOuterFace : Sizes → List Place → Bool
@@ -51,6 +48,10 @@ inOuterFace z ps =
 -- "the lattice edges of both its vertices lie in one outer face of the lattice"
 unfoldable pub outer : Sizes → ℕ → ℕ → Bool
 outer z e f = inOuterFace z (edgeEnds z e ++ edgeEnds z f)
+
+-- where a reverse is missing, by the edges of two vertices
+abbrev pub apart : Lattice → ℕ → ℕ → Bool
+apart L = outer (L .size)
 
 -- "a directed triangle edge occurs once. Its reverse occurs once too, except that it never occurs exactly when .."
 pub record Paired (apart : ℕ → ℕ → Bool) (ts : List Tri) : Type 0 where
@@ -72,7 +73,7 @@ pub record OneVertex (L : Lattice) (start : ℕ) (es : List ℕ) : Type 0 where
 pub record Demand3 (L : Lattice) (start : ℕ) (es : List ℕ) (ts : List Tri) : Type 0 where
   pub vertices : OneVertex L start es
   pub numbers : (i j : ℕ) → 0 < times ts i j → (i < length es) × (j < length es)
-  pub pairs : Paired (λ i j. outer (L .size) (getD es i 0) (getD es j 0)) ts
+  pub pairs : Paired (λ i j. apart L (getD es i 0) (getD es j 0)) ts
 
 -- a file's own vertices, by the edges of its records in their order, and its own triangles, by the numbers of their records
 unfoldable pub fileEdges : List ℕ → List ℕ
@@ -97,5 +98,5 @@ worked :
     ((tri 14 8 6 ∷ tri 14 6 18 ∷ tri 8 10 6 ∷ tri 6 10 18 ∷ tri 18 10 23 ∷ [])
     ∷ (tri 3 4 2 ∷ tri 6 4 3 ∷ tri 3 29 6 ∷ tri 6 28 4 ∷ tri 6 29 28 ∷ []) ∷ [])
     ≡ (true ∷ true ∷ [])
-unfolding times around isArrow edgeEnds inOuterFace outer sampleAt corner kinds
+unfolding times around isArrow edgeEnds inOuterFace outer anchorOf endsOf firstEnd secondEnd sampleAt corner kinds
 worked = refl

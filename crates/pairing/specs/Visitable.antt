@@ -5,28 +5,19 @@ use mathlib.Core.Bool.{Bool, true, not, _&&_, _||_}
 use mathlib.Core.List.{List, [], _∷_, _++_, map}
 use Prim.Native.Nat.{ℕ, _-_, _/_, _%_, min}
 use lib.Dec.{eqb}
-use lib.ListN.{getD}
 use Rattle.lists.specs.Lists.{all, each}
 use Rattle.paper.specs.declared.Sizes.{Sizes}
 use Rattle.paper.specs.declared.Place.{Place}
 use Rattle.paper.specs.Lattice.{place, corner, sampleNo, sampleAt, RBN, LTN, LBF, RTF}
-use Rattle.paper.specs.Tables.{Tri, tets, rows, tetEdges, kinds, low, joins, kindOf}
-use Rattle.paper.specs.Sheet.{edgeNo, rowOf, tetEdge, triEdges}
+use Rattle.paper.specs.Tables.{tets, rows, tetEdges, kinds, low, joins, kindOf}
+use Rattle.paper.specs.Sheet.{edgeNo, anchorOf, endsOf, firstEnd, secondEnd, rowOf, rowAt, tetEdge, triEdges, trianglesAt}
 use Rattle.pairing.specs.Pairing.{around, isArrow, times, edgeEnds, pairUp}
-
--- the triangles of the cube at p, by lattice edges, where `air` has the side of each sample
-unfoldable pub trianglesAt : Sizes → (Place → Bool) → Place → List Tri
-trianglesAt z air p =
-    each
-    (λ t.
-    map (triEdges z p t)
-    (getD rows (rowOf (air (corner p (t .a))) (air (corner p (t .b))) (air (corner p (t .c))) (air (corner p (t .d)))) [])) tets
 
 -- the least of the anchors of two lattice edges: the low corner of the box that they span
 unfoldable pub meet : Sizes → ℕ → ℕ → Place
 meet z e f =
-    let p = sampleAt z (e / 7) in
-    let q = sampleAt z (f / 7) in
+    let p = anchorOf z e in
+    let q = anchorOf z f in
     place (min (p .x) (q .x)) (min (p .y) (q .y)) (min (p .z) (q .z))
 
 unfoldable pub samePlace : Place → Place → Bool
@@ -60,5 +51,5 @@ worked :
     pairUp (unshared z (λ p. samePlace p c || samePlace p (corner c b)))
     (each (trianglesAt z (samePlace (corner c RTF))) (c ∷ corner c b ∷ []))) (RBN ∷ LTN ∷ LBF ∷ [])
     ≡ (true ∷ true ∷ true ∷ [])
-unfolding times around isArrow edgeEnds trianglesAt meet samePlace shared inUnshared unshared sampleNo sampleAt corner tets rows tetEdges kinds low joins kindOf edgeNo rowOf tetEdge triEdges
+unfolding times around isArrow edgeEnds anchorOf endsOf firstEnd secondEnd rowAt trianglesAt meet samePlace shared inUnshared unshared sampleNo sampleAt corner tets rows tetEdges kinds low joins kindOf edgeNo rowOf tetEdge triEdges
 worked = refl
