@@ -1,20 +1,20 @@
 -- Where tests 17 and 18 are passed, test 19 compares counts. Assumes nothing.
 use mathlib.Core.Path.{_≡_, refl, sym, ap, _∙_}
-use mathlib.Core.Bool.{not, _&&_}
+use mathlib.Core.Bool.{_&&_}
 use mathlib.Core.List.{List, [], _∷_, List·Memᴰ as In, List·Memᴰ·head as here}
 use Prim.Native.Nat.{ℕ, _≤_, _<_}
 use native.Mathlib.Omega.{arith}
 use lib.IntN.{ℤ, pos}
 use lib.Dec.{eqb, eqb-refl}
 use lib.ListN.{length}
-use Rattle.lists.specs.Lists.{range, count, any}
+use Rattle.lists.specs.Lists.{range, count, any, all}
 use Rattle.lists.proofs.Member.{and-both}
 use Rattle.lists.proofs.Closure.{length-range}
 use Rattle.lists.proofs.Within.{any-member, below}
 use Rattle.lists.proofs.Counts.{count-some, count-each, count-le-sum, count-unique, few-along, matched}
 use Rattle.paper.specs.Lattice.{Lattice, cubes}
 use Rattle.paper.specs.Tables.{Tri}
-use Rattle.paper.specs.Sheet.{sheetOf}
+use Rattle.paper.specs.Sheet.{vertexRecord, sheetOf}
 use Rattle.paper.specs.Within.{Sized}
 use Rattle.paper.specs.Check.{sameNumber, turned, edgeOf, triangleOf, complete}
 use Rattle.paper.proofs.Listing.{edges-unique}
@@ -25,7 +25,7 @@ use Rattle.pairing.proofs.Names.{few-times}
 use Rattle.pairing.proofs.Sheets.{by-edge}
 use Rattle.pairing.proofs.Turned.{is-turned, turned-is, back, along, hit, hit-turned}
 
-module _ (L : Lattice) (start : ℕ) (vs : List ℤ) (nv : ℕ) (good : (i : ℕ) → i < nv → Recorded L (sheetOf L start) vs i) where
+module _ (L : Lattice) (start : ℕ) (vs : List ℤ) (nv : ℕ) (good : (i : ℕ) → i < nv → Recorded (vertexRecord L) (sheetOf L start) vs i) where
   abbrev edges : List ℕ
   edges = sheetOf L start .edges
 
@@ -39,7 +39,7 @@ module _ (L : Lattice) (start : ℕ) (vs : List ℤ) (nv : ℕ) (good : (i : ℕ
       few-along (λ i. sameNumber (edgeOf vs i) (pos e)) nv
       (λ i j h l s t. good i h .new j l (same-number (edgeOf vs j) (pos e) t ∙ sym (same-number (edgeOf vs i) (pos e) s)))
 
-  pub vertices-full : eqb nv (length edges) ≡ not (any (λ e. not (any (λ i. sameNumber (edgeOf vs i) (pos e)) (range 0 nv))) edges)
+  pub vertices-full : eqb nv (length edges) ≡ all (λ e. any (λ i. sameNumber (edgeOf vs i) (pos e)) (range 0 nv)) edges
   vertices-full =
       ap (λ (n : ℕ). eqb n (length edges)) (sym (length-range 0 nv))
       ∙ matched (λ i e. sameNumber (edgeOf vs i) (pos e)) (range 0 nv) edges one-edge one-record
@@ -88,12 +88,12 @@ module _ (L : Lattice) (s : Sized (L .size)) (start : ℕ) (h : start < cubes (L
       few-along (λ i. turned u (tri-at i)) nt
       (λ i j h l x y. good i h .new j l (turned-is (along (back (is-turned u (tri-at i) x)) (is-turned u (tri-at j) y))))
 
-  pub triangles-full : eqb nt (length us′) ≡ not (any (λ t. not (any (λ i. turned t (tri-at i)) (range 0 nt))) us′)
+  pub triangles-full : eqb nt (length us′) ≡ all (λ t. any (λ i. turned t (tri-at i)) (range 0 nt)) us′
   triangles-full =
       ap (λ (n : ℕ). eqb n (length us′)) (sym (length-range 0 nt))
       ∙ matched (λ i u. turned u (tri-at i)) (range 0 nt) us′ one-triangle one-naming
 
-  pub complete-is : (nv : ℕ) → ((i : ℕ) → i < nv → Recorded L (sheetOf L start) vs i)
+  pub complete-is : (nv : ℕ) → ((i : ℕ) → i < nv → Recorded (vertexRecord L) (sheetOf L start) vs i)
       → (eqb nv (length (sheetOf L start .edges)) && eqb nt (length us′)) ≡ complete (sheetOf L start) vs ts nv nt
   unfolding complete
   complete-is nv g = λ i. vertices-full L start vs nv g i && triangles-full i

@@ -29,7 +29,7 @@ use Rattle.survey.specs.Marks.{baseOf}
 use Rattle.lists.proofs.Firsts.{first-holds}
 use Rattle.triples.specs.Triples.{holder, isAt, placeBy, placeIn, placeOf, Sure}
 use Rattle.triples.proofs.Laws.{place-word}
-use Rattle.triples.proofs.Meaning.{holder-is, at-row, placed, cube-worded}
+use Rattle.triples.proofs.Meaning.{at-row, placed, cube-worded}
 use Rattle.checker.proofs.Complete.{one-alike}
 
 -- ── one place a triangle ──
@@ -81,11 +81,10 @@ module _ (L : Lattice) (s : Sized (L .size)) (start : ℕ) (h : start < cubes (L
       go false e = n e
 
   one-in : (k : ℕ) (t : Tri) → T (isIn (visited L start) k) → count (λ u. turned u t) (cubeTriangles L k) ≤ 1
-  unfolding sheetOf
   one-in k t v =
       omega (
         arith,
-        one-alike L s start h t,
+        subst (λ (us : List Tri). count (λ u. turned u t) us ≤ 1) (parts L start .by-edge) (one-alike L s start h t),
         count-each (λ u. turned u t) (cubeTriangles L) (visited L start),
         part-le (λ k. count (λ u. turned u t) (cubeTriangles L k)) (in-list k (visited L start) v),
       )
@@ -103,7 +102,7 @@ module _ (L : Lattice) (s : Sized (L .size)) (start : ℕ) (h : start < cubes (L
         let below : d < 12 = ltb-true d 12 (sym (any-first (isAt z base m t) 12) ∙ T→eq (any (isAt z base m t) (range 0 12)) some) in
         let u = any-with (λ u. cubeOf z u ≡ cubeAt z k) (turned t) (cubeTriangles L k) (cube-triangles-cube L s k hk)
         (subst (λ (l : List Tri). T (any (turned t) l)) (w .triangles) (eq→T (sym (placed z base m t) ∙ (sym (any-first (isAt z base m t) 12) ∙ T→eq (any (isAt z base m t) (range 0 12)) some)))) in
-        let e : holder z t ≡ k = holder-is z t ∙ (ap (cubeNo z) (sym (turned-cube z t (u .0) (u .2)) ∙ u .1) ∙ cube-back z s k hk) in
+        let e : holder z t ≡ k = ap (cubeNo z) (sym (turned-cube z t (u .0) (u .2)) ∙ u .1) ∙ cube-back z s k hk in
         let few = subst (λ (l : List Tri). count (λ u. turned u t) l ≤ 1) (sym (w .triangles)) (one-in k t v) in
         (e, ap (λ (j : ℕ). placeIn z words j t) e ∙ (sym (place-word z words k t hk hw) ∙ one-spot z base m t few d c below hc (first-holds (isAt z base m t) 12 0 12 below) ha));
   }

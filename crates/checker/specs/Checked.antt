@@ -2,14 +2,12 @@
 use mathlib.Core.Path.{_≡_}
 use mathlib.Core.Bool.{_&&_}
 use mathlib.Core.List.{List, [], _∷_}
-use Prim.Native.Nat.{ℕ, _≤_}
+use Prim.Native.Nat.{ℕ}
 use lib.Dec.{eqb}
-use lib.ListN.{length, drop}
-use Rattle.lists.specs.Lists.{cleared}
-use Rattle.paper.specs.declared.Sizes.{Sizes}
+use lib.ListN.{drop}
 use Rattle.paper.specs.declared.Verdict.{Verdict}
 use Rattle.paper.specs.Lattice.{Lattice, cubes}
-use Rattle.paper.specs.Room.{needed, neededSlots, Work, work}
+use Rattle.paper.specs.Room.{Work, needed, neededSlots}
 use Rattle.paper.specs.Within.{Full}
 use Rattle.paper.specs.Tests.{Test, test, testAt, judge}
 use Rattle.paper.specs.Sheet.{sheetOf}
@@ -38,16 +36,6 @@ pub record Compared (L : Lattice) (bs : List ℕ) (n : Counts) (before : Work) (
   pub waiting : Beyond (needed (L .size)) (before .waiting) (after .waiting)
   pub slots : Beyond (neededSlots (L .size)) (before .slots) (after .slots)
 
--- the work slices are long enough
-pub record Roomy (z : Sizes) (w : Work) : Type 0 where
-  pub words : needed z ≤ length (w .words)
-  pub waiting : needed z ≤ length (w .waiting)
-  pub slots : neededSlots z ≤ length (w .slots)
-
--- the front of each work slice is 0
-abbrev pub clean : Sizes → Work → Work
-clean z w = work (cleared (needed z) (w .words)) (cleared (needed z) (w .waiting)) (cleared (neededSlots z) (w .slots))
-
 -- what is asked for comparing: a lattice, a file and work slices as a measured sheet leaves them, with an empty waiting list
 pub record Comparable (L : Lattice) (bs : List ℕ) (w : Work) : Type 0 where
   pub full : Full L
@@ -58,4 +46,4 @@ pub record Comparable (L : Lattice) (bs : List ℕ) (w : Work) : Type 0 where
 
 -- tests 17 to 19
 unfoldable pub lastTests : Lattice → ℕ → List ℕ → List Test
-lastTests L start bs = drop 1 (sheetTests L (sheetOf L start) bs)
+lastTests L start bs = drop 1 (sheetTests (L .size) (sheetOf L start) bs)

@@ -6,12 +6,12 @@ use paper::Verdict;
 ghost use mathlib.Core.Path.{_≡_};
 ghost use Prim.Native.Nat.{_<_};
 ghost use Rattle.paper.specs.Lattice.{lattice, cubes};
-ghost use Rattle.paper.specs.Room.{work};
-ghost use Rattle.paper.specs.Within.{Full};
+ghost use Rattle.paper.specs.Room.{work, lengths, clean};
+ghost use Rattle.paper.specs.Within.{Full, Roomy};
 ghost use Rattle.paper.specs.Tests.{judge};
 ghost use Rattle.paper.specs.Check.{sameSizes, Checks};
 ghost use Rattle.layout.specs.Laid.{LaidOut};
-ghost use Rattle.checker.specs.Checked.{Compared, Comparable, Roomy, clean, lastTests};
+ghost use Rattle.checker.specs.Checked.{Compared, Comparable, lastTests};
 
 fn same_sizes(a: Sizes, b: Sizes) -> bool
     ensures { λ r. ⌜ r ≡ sameSizes a b ⌝ }
@@ -35,8 +35,13 @@ fn compare(
     waiting: &mut [u32],
     slots: &mut [u32],
 ) -> Verdict
-    requires { ⌜ Comparable (lattice sizes (now samples)) (now bytes) (work (now words) (now waiting) (now slots)) × Roomy sizes (work (now words) (now waiting) (now slots)) ⌝ }
-    ensures { λ r. ⌜ Compared (lattice sizes (now (samples .entry))) (now (bytes .entry)) counts (work (now (words .entry)) (now (waiting .entry)) (now (slots .entry))) r (work (now (words .entry)) (now (waiting .exit)) (now (slots .exit))) ⌝ }
+    requires {
+        let lent = work (now words) (now waiting) (now slots) in
+        ⌜ Comparable (lattice sizes (now samples)) (now bytes) lent × Roomy sizes (lengths lent) ⌝ }
+    ensures { λ r.
+        let before = work (now (words .entry)) (now (waiting .entry)) (now (slots .entry)) in
+        let after = work (now (words .entry)) (now (waiting .exit)) (now (slots .exit)) in
+        ⌜ Compared (lattice sizes (now (samples .entry))) (now (bytes .entry)) counts before r after ⌝ }
 {
     let nv = layout::vertex_count(bytes);
     let nt = layout::triangle_count(bytes);
@@ -82,8 +87,13 @@ fn last_tests(
     waiting: &mut [u32],
     slots: &mut [u32],
 ) -> Verdict
-    requires { ⌜ Full (lattice sizes (now samples)) × (start < cubes sizes) × LaidOut (now bytes) × Roomy sizes (work (now words) (now waiting) (now slots)) ⌝ }
-    ensures { λ r. ⌜ (r ≡ judge (lastTests (lattice sizes (now (samples .entry))) start (now (bytes .entry)))) × (work (now (words .exit)) (now (waiting .exit)) (now (slots .exit)) ≡ clean sizes (work (now (words .entry)) (now (waiting .entry)) (now (slots .entry)))) ⌝ }
+    requires {
+        let lent = work (now words) (now waiting) (now slots) in
+        ⌜ Full (lattice sizes (now samples)) × (start < cubes sizes) × LaidOut (now bytes) × Roomy sizes (lengths lent) ⌝ }
+    ensures { λ r.
+        let before = work (now (words .entry)) (now (waiting .entry)) (now (slots .entry)) in
+        let after = work (now (words .exit)) (now (waiting .exit)) (now (slots .exit)) in
+        ⌜ (r ≡ judge (lastTests (lattice sizes (now (samples .entry))) start (now (bytes .entry)))) × (after ≡ clean sizes before) ⌝ }
 {
     let counts = measure::measure(samples, sizes, start, words, waiting, slots);
     let n = lattice::cube_count(sizes);
@@ -103,7 +113,10 @@ pub fn check(
     waiting: &mut [u32],
     slots: &mut [u32],
 ) -> Verdict
-    ensures { λ r. ⌜ Checks (lattice sizes (now (samples .entry))) start (now (bytes .entry)) (work (now (words .entry)) (now (waiting .entry)) (now (slots .entry))) r (work (now (words .exit)) (now (waiting .exit)) (now (slots .exit))) ⌝ }
+    ensures { λ r.
+        let before = work (now (words .entry)) (now (waiting .entry)) (now (slots .entry)) in
+        let after = work (now (words .exit)) (now (waiting .exit)) (now (slots .exit)) in
+        ⌜ Checks (lattice sizes (now (samples .entry))) start (now (bytes .entry)) before r after ⌝ }
 {
     let ready = ready::begin(
         samples,

@@ -10,7 +10,7 @@ use lib.IntN.{pos}
 use lib.ListN.{length, getD}
 use Rattle.lists.specs.Lists.{range}
 use Rattle.lists.specs.Bytes.{field}
-use Rattle.paper.specs.File.{signed32, trailerAt, fileLength, badTriangle, firstBad, limits, trailer, fileV, fileT, fileVertices, fileTriangles, laidOut}
+use Rattle.paper.specs.File.{signed32, fileLength, badTriangle, firstBad, limits, trailer, fileV, fileT, fileVertices, fileTriangles, laidOut}
 use Rattle.lists.proofs.Firsts.{first-found, first-missing}
 use Rattle.lists.proofs.Runs.{length-along, at-along}
 use Rattle.codec.proofs.Runs.{wordAt}
@@ -58,7 +58,7 @@ bad-missing nv nt ts = first-missing (badTriangle nv ts) nt
 -- test 14 by its numbers
 pub laid-is : (bs : List ℕ) (nv nt a b : ℕ) → nv ≡ fileV bs → nt ≡ fileT bs → a ≡ trailer 4 bs 0 → b ≡ trailer 4 bs 8
     → laidOut bs ≡ (limits nv nt && eqb a (16 * nv + 12 * nt) && eqb b (12 * nt) && eqb (length bs) (16 * nv + 12 * nt + 24))
-unfolding laidOut fileLength trailerAt
+unfolding laidOut fileLength
 laid-is bs nv nt a b ev et ea eb = rw (ev, et, ea, eb)
 
 pub in-limits : (nv nt : ℕ) → limits nv nt ≡ true → (nv ≤ 2000000) × (nt ≤ 4000000)

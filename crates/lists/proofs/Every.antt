@@ -145,6 +145,10 @@ module _ {A B : Type 0} where
   each-map f g (x ∷ xs) = ap (λ (l : List _). f (g x) ++ l) (each-map f g xs)
 
   -- a test of what passed
+  pub any-map : (p : B → Bool) (f : A → B) (l : List A) → any p (map f l) ≡ any (λ x. p (f x)) l
+  any-map p f [] = refl
+  any-map p f (x ∷ xs) = ap (λ (b : Bool). p (f x) || b) (any-map p f xs)
+
   pub any-map-keep : (p : B → Bool) (f : A → B) (q : A → Bool) (l : List A) → any p (map f (keep q l)) ≡ any (λ x. q x && p (f x)) l
   any-map-keep p f q [] = refl
   any-map-keep p f q (x ∷ xs) = go (q x) (any-map-keep p f q xs)

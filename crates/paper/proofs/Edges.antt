@@ -14,17 +14,9 @@ use Rattle.paper.specs.declared.Place.{Place}
 use Rattle.paper.specs.Lattice.{Lattice, place, samples, sampleNo, sampleAt, airAt, corner, cubes, cubeAt}
 use Rattle.paper.specs.Tables.{Ends, Tet, Tri, ends, kinds, low, kindOf}
 use Rattle.paper.specs.Sheet.{edgeNumbers, edgeNo, anchorOf, kindIn, endsOf, firstEnd, secondEnd, split, cubeEdges, recordAt, vertexRecord, tetEdge, triEdges, cubeTriangles}
-use Rattle.paper.specs.Within.{Sized, SampleIn, CubeIn}
+use Rattle.paper.specs.Within.{Sized, SampleIn, CubeIn, cubeOf}
 use Rattle.paper.proofs.Numbers.{sample-lt, sample-place, cube-inside, corner-inside}
 use Rattle.paper.proofs.Tables.{edgeOf, stands, inCube, kindHas, kinds-found, kind-lt, reachesLow, reaching, on-cube, on-cube-edges}
-
--- the least x, y and z of the anchors of three edges
-unfoldable pub cubeOf : Sizes → Tri → Place
-cubeOf z t =
-    let a = anchorOf z (t .a) in
-    let b = anchorOf z (t .b) in
-    let c = anchorOf z (t .c) in
-    place (min (min (a .x) (b .x)) (c .x)) (min (min (a .y) (b .y)) (c .y)) (min (min (a .z) (b .z)) (c .z))
 
 pub both-in : (e : Ends) → T (inCube e) → (e .a < 8) × (e .b < 8)
 unfolding inCube

@@ -15,10 +15,10 @@ use Rattle.paper.specs.Lattice.{Lattice, place, cubeNo, cubeAt, visited}
 use Rattle.paper.specs.Tables.{Tri, tri}
 use Rattle.paper.specs.Sheet.{anchorOf, cubeTriangles, sheetBy, sheetOf}
 use Rattle.paper.specs.Check.{sameTriangle, turned}
-use Rattle.paper.specs.Within.{Sized}
+use Rattle.paper.specs.Within.{Sized, cubeOf}
 use Rattle.paper.proofs.Numbers.{cube-back}
 use Rattle.paper.proofs.Visits.{visited-lt}
-use Rattle.paper.proofs.Edges.{cubeOf, cube-triangles-cube}
+use Rattle.paper.proofs.Edges.{cube-triangles-cube}
 
 -- ── turned triangles ──
 

@@ -1,11 +1,13 @@
--- What inner functions ask of their arguments: sizes that pass test 1, places that are in the lattice, numbers below a bound. Assumes nothing.
+-- What inner functions ask of their arguments: sizes that pass test 1, room that passes test 3, places that are in the lattice, numbers below
+-- a bound; and the cube that can hold a triangle. Assumes nothing.
 use mathlib.Core.Path.{_≡_}
-use Prim.Native.Nat.{ℕ, _+_, _≤_, _<_}
+use Prim.Native.Nat.{ℕ, _+_, _≤_, _<_, min}
 use lib.ListN.{length}
 use Rattle.paper.specs.declared.Sizes.{Sizes}
 use Rattle.paper.specs.declared.Place.{Place}
-use Rattle.paper.specs.Lattice.{Lattice, samples}
+use Rattle.paper.specs.Lattice.{Lattice, samples, place}
 use Rattle.paper.specs.Tables.{Tri}
+use Rattle.paper.specs.Sheet.{anchorOf}
 use Rattle.paper.specs.Room.{Lengths, needed, neededSlots}
 
 -- sizes that pass test 1
@@ -45,3 +47,11 @@ pub record CubeIn (n : Sizes) (p : Place) : Type 0 where
   pub x : p .x + 1 < n .nx
   pub y : p .y + 1 < n .ny
   pub z : p .z + 1 < n .nz
+
+-- the cube that can hold a triangle: at the least x, y and z of the anchors of its edges
+unfoldable pub cubeOf : Sizes → Tri → Place
+cubeOf z t =
+    let a = anchorOf z (t .a) in
+    let b = anchorOf z (t .b) in
+    let c = anchorOf z (t .c) in
+    place (min (min (a .x) (b .x)) (c .x)) (min (min (a .y) (b .y)) (c .y)) (min (min (a .z) (b .z)) (c .z))

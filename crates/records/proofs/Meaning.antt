@@ -12,7 +12,7 @@ use borrow.Author.Tests.{lt-ltb, ltb-true, not-false, eqb-false}
 use lib.Arith.{lt-of-le-ne}
 use Rattle.lists.specs.Lists.{range, any, isIn, first}
 use Rattle.lists.proofs.Member.{T→eq, eq→T, or-cases, or-left, or-right, and-both, and-left, and-right, and3, both3, any-in, in-any, in-range, range-in}
-use Rattle.lists.proofs.Every.{All, all-in, all-map}
+use Rattle.lists.proofs.Every.{All, all-in, all-map, any-map}
 use Rattle.lists.proofs.Within.{members, below as run-below}
 use Rattle.lists.proofs.Stores.{stored-rest}
 use Rattle.lists.proofs.Closure.{bool-same}
@@ -55,7 +55,7 @@ along-in f i (suc n) j h g = go (eqb j i) refl (λ l. along-in f (suc i) n j l (
     go true e r = or-left (eqb (f j) (f i)) (isIn (map f (range (suc i) n)) (f j)) (subst (λ (k : ℕ). T (eqb (f j) (f k))) (eqb→eq j i (eq→T e)) (eqb-refl (f j)))
     go false e r = or-right (eqb (f j) (f i)) (isIn (map f (range (suc i) n)) (f j)) (r (lt-of-le-ne h (λ q. eqb-false j i e (sym q))))
 
-module _ (L : Lattice) (S : Sheet) (vs : List ℤ) (slots : List ℕ)
+module _ (L : Lattice) (S : Sheet) (are : S .records ≡ map (vertexRecord L) (S .edges)) (vs : List ℤ) (slots : List ℕ)
     (used-are : (e : ℕ) → e < neededSlots (L .size) → used slots e ≡ isIn (S .edges) e)
     (below : All (λ e. e < neededSlots (L .size)) (S .edges)) (long : neededSlots (L .size) ≤ length slots) where
   abbrev n : ℕ
@@ -123,9 +123,14 @@ module _ (L : Lattice) (S : Sheet) (vs : List ℤ) (slots : List ℕ)
         (subst (λ (j : ℕ). T (isIn (S .edges) j)) (sym m) (w .1 .0))))
         (subst (λ (j : ℕ). T (sameNumbers (recordOf vs i) (vertexRecord L j))) (sym m) (w .1 .1))
 
-    pub bad-is : badIn L vs slots i ≡ badRecord L S vs i
+    found-is : found ≡ any (sameNumbers (recordOf vs i)) (S .records)
+    found-is = sym (ap (any (sameNumbers (recordOf vs i))) are ∙ any-map (sameNumbers (recordOf vs i)) (vertexRecord L) (S .edges))
+
+    pub bad-is : badIn L vs slots i ≡ badRecord S vs i
     unfolding badIn badRecord
-    bad-is = ap not (bool-same (goodRecord L vs (slotsAfter L vs slots i) i) (found && not earlier) good-sound good-full) ∙ swap found earlier
+    bad-is =
+        ap not (bool-same (goodRecord L vs (slotsAfter L vs slots i) i) (found && not earlier) good-sound good-full)
+        ∙ (swap found earlier ∙ ap (λ (b : Bool). not b || earlier) found-is)
       where
         swap : (a b : Bool) → not (a && not b) ≡ (not a || b)
         swap true true = refl
@@ -133,7 +138,7 @@ module _ (L : Lattice) (S : Sheet) (vs : List ℤ) (slots : List ℕ)
         swap false b = refl
 
   -- so the first such is the one of test 17
-  pub first-bad-is : (nv : ℕ) → firstBadIn L vs slots nv ≡ first (badRecord L S vs) nv (range 0 nv)
+  pub first-bad-is : (nv : ℕ) → firstBadIn L vs slots nv ≡ first (badRecord S vs) nv (range 0 nv)
   unfolding firstBadIn
   first-bad-is nv j = first (λ i. bad-is i j) nv (range 0 nv)
 

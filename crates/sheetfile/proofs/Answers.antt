@@ -15,7 +15,7 @@ use Rattle.paper.specs.declared.Verdict.{Verdict}
 use Rattle.paper.specs.Lattice.{axes}
 use Rattle.paper.specs.Tests.{Test, test, judge, verdict}
 use Rattle.paper.specs.Room.{roomTests, outputAfter}
-use Rattle.paper.specs.File.{signed32, contentOf, trailerAt, fileLength, fileBytes, firstBad, indexTest, limits, writeVerdict, wrote, Writes, fileV, fileT, fileSizes, fileVertices, fileTriangles, fileTests, readVerdict, got, Reads}
+use Rattle.paper.specs.File.{signed32, contentOf, fileLength, fileBytes, firstBad, indexTest, limits, writeVerdict, wrote, Writes, fileV, fileT, fileSizes, fileVertices, fileTriangles, fileTests, readVerdict, got, Reads}
 use Rattle.paper.proofs.Judged.{Numbered, Passed, numbered-both, passed-both, judge-all, judge-none, passed-judge, sized, sized-axes}
 use Rattle.lists.proofs.Stores.{sets-front}
 use Rattle.codec.proofs.Runs.{wordAt}
@@ -37,7 +37,7 @@ module _ (z : Sizes) (nv nt : ℕ) (vs : List ℤ) (ts : List ℕ) where
       ∷ []
 
   write-tests : (room : ℕ) → writeVerdict z nv nt vs ts room ≡ judge (writeTests room)
-  unfolding writeVerdict fileLength trailerAt
+  unfolding writeVerdict fileLength
   write-tests room = refl
 
   write-numbered : (room : ℕ) → Numbered (writeTests room)
@@ -75,7 +75,7 @@ module _ (z : Sizes) (nv nt : ℕ) (vs : List ℤ) (ts : List ℕ) where
 
     pub write-done : v .number ≡ 0 → (after : List ℕ) → after ≡ over (fileBytes (contentOf z nv nt vs ts)) before
         → Writes z nv nt vs ts before (record { number = 0; place = 0; bytes = 16 * nv + 12 * nt + 24 }) after
-    unfolding wrote outputAfter fileLength trailerAt
+    unfolding wrote outputAfter fileLength
     write-done h after e =
         let room = length before in
         let t = write-tests room in

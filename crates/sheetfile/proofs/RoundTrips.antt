@@ -16,7 +16,7 @@ use Rattle.paper.specs.declared.Wrote.{Wrote}
 use Rattle.paper.specs.declared.Got.{Got}
 use Rattle.paper.specs.Tests.{verdict}
 use Rattle.paper.specs.Room.{vertexRoom, triangleRoom, outputAfter}
-use Rattle.paper.specs.File.{contentOf, trailerAt, fileLength, fileBytes, writeVerdict, wrote, Writes, fileV, fileT, fileSizes, fileVertices, fileTriangles, fileTests, readVerdict, got, Reads}
+use Rattle.paper.specs.File.{contentOf, fileLength, fileBytes, writeVerdict, wrote, Writes, fileV, fileT, fileSizes, fileVertices, fileTriangles, fileTests, readVerdict, got, Reads}
 use Rattle.paper.proofs.Judged.{judge-past}
 use Rattle.codec.specs.Words.{Bytes, Words}
 use Rattle.layout.proofs.Trailer.{vertices-length, triangles-length}
@@ -58,7 +58,7 @@ pub record Done (z : Sizes) (nv nt : ℕ) (vs : List ℤ) (ts before after : Lis
 
 module _ {z : Sizes} {nv nt : ℕ} {vs : List ℤ} {ts before after : List ℕ} {r : Wrote} (w : Writes z nv nt vs ts before r after) where
   pub written-bytes : r .number ≡ 0 → Done z nv nt vs ts before after r
-  unfolding wrote outputAfter fileLength trailerAt
+  unfolding wrote outputAfter fileLength
   written-bytes h =
       let file = fileBytes (contentOf z nv nt vs ts) in
       let e : writeVerdict z nv nt vs ts (length before) .number ≡ 0 = ap (λ (x : Wrote). x .number) (sym (w .answer)) ∙ h in
@@ -133,7 +133,7 @@ module _ (bs : List ℕ) (vs : List ℤ) (ts : List ℕ) where
         → Writes (fileSizes bs) (fileV bs) (fileT bs) (over (fileVertices bs) vs) (over (fileTriangles bs) ts) before r after
         → length bs ≤ length before
         → (r ≡ record { number = 0; place = 0; bytes = length bs }) × (after ≡ over bs before)
-    unfolding wrote outputAfter fileLength trailerAt
+    unfolding wrote outputAfter fileLength
     rewrites {before} {after} {r} bytes w h =
         let n = taken-verdict _ _ _ _ _ (length before) (again (length before) h) in
         (w .answer ∙ rw n (ap (λ (k : ℕ). wroteAll k) (sym (room .laid .ranged .long))), w .left ∙ rw (n, same-file bytes))

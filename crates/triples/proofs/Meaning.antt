@@ -25,7 +25,6 @@ use Rattle.paper.specs.Sheet.{Sheet, sheetOf, cubeTriangles}
 use Rattle.paper.specs.Within.{Sized}
 use Rattle.paper.specs.Check.{turned, triangleOf, badNaming}
 use Rattle.paper.proofs.Visits.{visited-lt}
-use Rattle.paper.proofs.Edges.{anchorOf, cubeOf}
 use Rattle.paper.proofs.Finding.{turned-cube, in-sheet}
 use Rattle.pairing.proofs.Turned.{is-turned, turned-is, back, along}
 use Rattle.sides.specs.Pattern.{bitOf}
@@ -102,16 +101,9 @@ module _ (z : Sizes) (base m : ℕ) (t : Tri) where
 
 -- ── two triangles of the sheet are turned alike exactly when they have one cube and one place ──
 
-abbrev here : Sizes → Tri → ℕ
-here z t = cubeNo z (cubeOf z t)
-
-pub holder-is : (z : Sizes) (t : Tri) → holder z t ≡ here z t
-unfolding holder cubeOf anchorOf
-holder-is z t = refl
-
 module _ (z : Sizes) (words : List ℕ) (t u : Tri) where
   alike-holder : T (turned t u) → holder z t ≡ holder z u
-  alike-holder h = holder-is z t ∙ (ap (cubeNo z) (sym (turned-cube z t u h)) ∙ sym (holder-is z u))
+  alike-holder h = ap (cubeNo z) (sym (turned-cube z t u h))
 
   alike-place : T (turned t u) → placeOf z words t ≡ placeOf z words u
   unfolding placeOf placeIn placeBy isAt
@@ -282,12 +274,12 @@ module _ (L : Lattice) (s : Sized (L .size)) (start : ℕ) (words : List ℕ)
 
   pub in-sheet-is : (t : Tri) → ltb (placeOf size words t) 12 ≡ any (turned t) (sheetOf L start .byEdge)
   unfolding placeOf
-  in-sheet-is t = go (isIn (visited L start) (here size t)) refl ∙ sym (in-sheet L s start t)
+  in-sheet-is t = go (isIn (visited L start) (holder size t)) refl ∙ sym (in-sheet L s start t)
     where
-      go : (b : Bool) → isIn (visited L start) (here size t) ≡ b
-          → ltb (placeIn size words (holder size t) t) 12 ≡ (isIn (visited L start) (here size t) && any (turned t) (cubeTriangles L (here size t)))
-      go true e = ap (λ (k : ℕ). ltb (placeIn size words k t) 12) (holder-is size t) ∙ (cube-places (here size t) t (eq→T e) ∙ sym (ap (λ (b : Bool). b && any (turned t) (cubeTriangles L (here size t))) e))
-      go false e = ap (λ (k : ℕ). ltb (placeIn size words k t) 12) (holder-is size t) ∙ (no-places (here size t) t e ∙ sym (ap (λ (b : Bool). b && any (turned t) (cubeTriangles L (here size t))) e))
+      go : (b : Bool) → isIn (visited L start) (holder size t) ≡ b
+          → ltb (placeIn size words (holder size t) t) 12 ≡ (isIn (visited L start) (holder size t) && any (turned t) (cubeTriangles L (holder size t)))
+      go true e = cube-places (holder size t) t (eq→T e) ∙ sym (ap (λ (b : Bool). b && any (turned t) (cubeTriangles L (holder size t))) e)
+      go false e = no-places (holder size t) t e ∙ sym (ap (λ (b : Bool). b && any (turned t) (cubeTriangles L (holder size t))) e)
 
   -- so the first bad triangle is the one of test 18
   pub first-bad-is : (vs : List ℤ) (ts seen : List ℕ) → cubes size ≤ length seen → ((k : ℕ) → k < cubes size → getD seen k 0 ≡ 0) → (nt : ℕ)

@@ -2,14 +2,15 @@
 use mathlib.Core.Path.{_≡_}
 use mathlib.Core.Bool.{Bool, true, cond, not, _&&_}
 use mathlib.Core.List.{List}
-use Prim.Native.Nat.{ℕ, zero, suc, _+_, _-_, _/_, _%_, _^_, min, _<_}
+use Prim.Native.Nat.{ℕ, zero, suc, _+_, _-_, _/_, _%_, _^_, _<_}
 use lib.IntN.{ℤ}
 use lib.Dec.{eqb, ltb}
 use lib.ListN.{getD, set}
 use Rattle.lists.specs.Lists.{range, first}
 use Rattle.paper.specs.declared.Sizes.{Sizes}
-use Rattle.paper.specs.Lattice.{place, sampleAt, cubes, cubeNo}
+use Rattle.paper.specs.Lattice.{cubes, cubeNo}
 use Rattle.paper.specs.Tables.{Tri, tri}
+use Rattle.paper.specs.Within.{cubeOf}
 use Rattle.paper.specs.Check.{turned, edgeOf, triangleOf}
 use Rattle.sides.specs.Pattern.{bitOf}
 use Rattle.tetra.specs.Cut.{rowBy, rowCount, rowTriangles}
@@ -21,13 +22,9 @@ use Rattle.triples.specs.declared.Spot.{Spot}
 pub record Named (n : ℕ) (vs : List ℤ) (nv : ℕ) : Type 0 where
   pub below : (i : ℕ) → i < nv → edgeIn (edgeOf vs i) n < n
 
--- the cube that can hold a triangle: at the least x, y and z of the anchors of its edges
-unfoldable pub holder : Sizes → Tri → ℕ
-holder z t =
-    let a = sampleAt z (t .a / 7) in
-    let b = sampleAt z (t .b / 7) in
-    let c = sampleAt z (t .c / 7) in
-    cubeNo z (place (min (min (a .x) (b .x)) (c .x)) (min (min (a .y) (b .y)) (c .y)) (min (min (a .z) (b .z)) (c .z)))
+-- the number of the cube that can hold a triangle
+abbrev pub holder : Sizes → Tri → ℕ
+holder z t = cubeNo z (cubeOf z t)
 
 -- t is triangle c of a cube with pattern m, read from any corner; c counts two to a tetrahedron
 unfoldable pub isAt : Sizes → ℕ → ℕ → Tri → ℕ → Bool

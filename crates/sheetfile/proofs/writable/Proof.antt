@@ -9,7 +9,7 @@ use lib.Dec.{leb, eqb}
 use lib.ListN.{length}
 use Rattle.paper.specs.Lattice.{axes}
 use Rattle.paper.specs.Tests.{verdict}
-use Rattle.paper.specs.File.{limits, firstBad, trailerAt, fileLength, writeVerdict}
+use Rattle.paper.specs.File.{limits, firstBad, fileLength, writeVerdict}
 use Rattle.sheetfile.specs.Taken.{Writable}
 use Rattle.layout.proofs.Flags.{fails, passes}
 use Rattle.sheetfile.proofs.Stored.{counted}
@@ -46,14 +46,14 @@ axes-pass-requires : tie.Need-axes-pass-requires
 axes-pass-requires c κs = search needs
 
 returns : tie.Need-returns
-unfolding writeVerdict fileLength trailerAt
+unfolding writeVerdict fileLength
 returns c = rw (fails (c .before .axes-pass .ensures) (c .if1 .taken))
 
 counts-fit-requires : tie.Need-counts-fit-requires
 counts-fit-requires c κs = search needs
 
 returns-2 : tie.Need-returns-2
-unfolding writeVerdict fileLength trailerAt
+unfolding writeVerdict fileLength
 returns-2 c = rw (sized (c .before .before), fails (c .before .counts-fit .ensures) (c .if2 .taken))
 
 first-bad-requires : tie.Need-first-bad-requires
@@ -72,7 +72,7 @@ add-long-2 : tie.Need-add-long-2
 add-long-2 c = omega (arith, taken (c .before))
 
 returns-3 : tie.Need-returns-3
-unfolding writeVerdict fileLength trailerAt
+unfolding writeVerdict fileLength
 returns-3 c =
     let a = args₃ (c .before) .args in
     let bad = c .before .first-bad .ensures in
@@ -80,7 +80,7 @@ returns-3 c =
     rw (sized (c .before .before .before .before), fitting (c .before .before), n) (ap (verdict 15) bad)
 
 returns-4 : tie.Need-returns-4
-unfolding writeVerdict fileLength trailerAt
+unfolding writeVerdict fileLength
 returns-4 c =
     let a = args₃ (c .before .before) .args in
     rw (
@@ -91,7 +91,7 @@ returns-4 c =
     )
 
 returns-5 : tie.Need-returns-5
-unfolding writeVerdict fileLength trailerAt
+unfolding writeVerdict fileLength
 returns-5 c =
     let a = args₃ (c .before .before) .args in
     rw (

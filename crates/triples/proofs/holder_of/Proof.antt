@@ -3,7 +3,8 @@ use mathlib.Core.Path.{_∙_}
 use Prim.Native.Nat.{_+_, _-_, _*_, min, _≤_}
 use native.Mathlib.Omega.{arith}
 use Rattle.paper.specs.Lattice.{cubeNo}
-use Rattle.triples.specs.Triples.{holder}
+use Rattle.paper.specs.Sheet.{anchorOf}
+use Rattle.paper.specs.Within.{cubeOf}
 use Rattle.lattice.proofs.Laws.{Parts, parts}
 use borrow.Author.Needs.{needs}
 use Rattle.triples.proofs.holder_of.Statement.{statement}
@@ -61,7 +62,7 @@ add-result-2 : tie.Need-add-result-2
 add-result-2 c = omega (arith, small (c .before .before), low (c .before .before))
 
 returns : tie.Need-returns
-unfolding holder cubeNo
+unfolding cubeOf anchorOf cubeNo
 returns c =
     let at-least = c .before .before .before .before in
     let at-anchor-of3 = at-least .before in
