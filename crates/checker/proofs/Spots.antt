@@ -14,11 +14,12 @@ use Rattle.lists.proofs.Runs.{any-first}
 use Rattle.paper.specs.declared.Sizes.{Sizes}
 use Rattle.paper.specs.Lattice.{Lattice, cubes, cubeNo, cubeAt, visited}
 use Rattle.paper.specs.Tables.{Tri, tri}
-use Rattle.paper.specs.Sheet.{cubeTriangles, sheetOf}
-use Rattle.paper.specs.Within.{Sized}
+use Rattle.paper.specs.Sheet.{cubeTriangles}
+use Rattle.paper.specs.Within.{Sized, cubeOf}
 use Rattle.paper.specs.Check.{turned}
 use Rattle.paper.proofs.Numbers.{cube-back}
-use Rattle.paper.proofs.Edges.{cubeOf, cube-triangles-cube}
+use Rattle.paper.proofs.Edges.{cube-triangles-cube}
+use Rattle.paper.proofs.Listing.{parts}
 use Rattle.paper.proofs.Finding.{turned-cube}
 use Rattle.lists.proofs.Within.{nth-in, in-list, in-run}
 use Rattle.lists.proofs.Counts.{sum, part-le, one-member, count-some, count-each, one-place}

@@ -9,22 +9,21 @@ use lib.IntN.{ℤ}
 use lib.ListN.{length, getD, drop, replicate, length-map}
 use borrow.Author.Tests.{eqb-true}
 use Rattle.lists.specs.Lists.{range, first, isIn, cleared}
-use Rattle.lists.proofs.Every.{All}
 use Rattle.paper.specs.declared.Sizes.{Sizes}
 use Rattle.paper.specs.declared.Start.{Start}
 use Rattle.paper.specs.declared.Verdict.{Verdict}
 use Rattle.paper.specs.Lattice.{Lattice, cubes, visited}
-use Rattle.paper.specs.Sheet.{Sheet, numbered, sheetOf}
-use Rattle.paper.specs.Room.{needed, neededSlots, clears, workAfter, Work, work}
-use Rattle.paper.specs.Within.{Sized, Full}
+use Rattle.paper.specs.Sheet.{Sheet, vertexRecord, numbered, sheetOf}
+use Rattle.paper.specs.Room.{Work, work, Lengths, lengths, needed, neededSlots, clears, clean, workAfter}
+use Rattle.paper.specs.Within.{Sized, Full, Roomy}
 use Rattle.paper.specs.Tests.{Test, verdict, judge}
 use Rattle.paper.specs.Build.{startOf, sampleTests}
 use Rattle.paper.specs.File.{fileV, fileT, fileSizes, fileVertices, fileTriangles, fileTests}
-use Rattle.paper.specs.Check.{sameSizes, badRecord, badNaming, complete, sheetTests, checked}
+use Rattle.paper.specs.Check.{sameSizes, badRecord, badNaming, complete, sheetTests, checked, checkedAfter, Checks}
 use Rattle.paper.proofs.Judged.{Numbered, numbered-both, judge-past, judge-stop, judge-among}
 use Rattle.paper.proofs.Tested.{recorded, listed}
 use Rattle.paper.proofs.Passing.{sample-numbered, file-numbered, work-kept, work-cleared}
-use Rattle.paper.proofs.Listing.{edges-lt}
+use Rattle.paper.proofs.Listing.{parts, sheet-edges-lt}
 use Rattle.flood.specs.Flooded.{wordOf, Beyond}
 use Rattle.layout.specs.Laid.{LaidOut}
 use Rattle.measure.specs.declared.Counts.{Counts}
@@ -38,7 +37,7 @@ use Rattle.lists.proofs.Firsts.{first-before}
 use Rattle.records.proofs.Meaning.{first-bad-is as bad-record-is}
 use Rattle.triples.specs.Triples.{firstBadIn as firstBadTriple}
 use Rattle.triples.proofs.Meaning.{first-bad-is as bad-triple-is}
-use Rattle.checker.specs.Checked.{Roomy, Comparable, clean, foundTests, lastTests}
+use Rattle.checker.specs.Checked.{Comparable, foundTests, lastTests}
 use Rattle.checker.proofs.Complete.{complete-is}
 use Rattle.checker.proofs.Spots.{sure}
 
@@ -79,7 +78,7 @@ module _ (L : Lattice) (s : Sized (L .size)) (start : ℕ) (h : start < cubes (L
       let n = clear-beyond (neededSlots z) slots slots′ c ∙ u .2 in
       λ i. work (u .0 i) (q i) (n i)
 
-  module _ (room : Roomy z (work words blank slots)) (bs : List ℕ) where
+  module _ (room : Roomy z (lengths (work words blank slots))) (bs : List ℕ) where
     abbrev vs : List ℤ
     vs = fileVertices bs
 
@@ -87,17 +86,13 @@ module _ (L : Lattice) (s : Sized (L .size)) (start : ℕ) (h : start < cubes (L
     ts = fileTriangles bs
 
     abbrev i : ℕ
-    i = first (badRecord L S vs) (fileV bs) (range 0 (fileV bs))
+    i = first (badRecord S vs) (fileV bs) (range 0 (fileV bs))
 
     abbrev j : ℕ
     j = first (badNaming S vs ts) (fileT bs) (range 0 (fileT bs))
 
-    edges-below : All (λ e. e < neededSlots z) (S .edges)
-    unfolding sheetOf
-    edges-below = edges-lt L (visited L start)
-
     record-is : firstBadRecord L vs slots (fileV bs) ≡ i
-    record-is = bad-record-is L S vs slots (slot-used L s start slots (before .slots) (m .numbered)) edges-below (room .slots) (fileV bs)
+    record-is = bad-record-is L S (parts L start .records) vs slots (slot-used L s start slots (before .slots) (m .numbered)) (sheet-edges-lt L start) (room .slots) (fileV bs)
 
     triple-is : firstBadTriple z words vs ts blank (fileT bs) ≡ j
     triple-is = bad-triple-is L s start words words-are vs ts blank (room .waiting) blank-at (fileT bs)
@@ -106,8 +101,8 @@ module _ (L : Lattice) (s : Sized (L .size)) (start : ℕ) (h : start < cubes (L
     vertices-are = ap (λ (c : Counts). c .vertices) (m .counts)
 
     triangles-are : r .triangles ≡ length (S .byEdge)
-    unfolding sheetOf
-    triangles-are = ap (λ (c : Counts). c .triangles) (m .counts) ∙ length-map (S .byEdge) (numbered (S .edges))
+    triangles-are =
+        ap (λ (c : Counts). c .triangles) (m .counts) ∙ (ap length (parts L start .triangles) ∙ length-map (S .byEdge) (numbered (S .edges)))
 
     counted : i ≡ fileV bs → j ≡ fileT bs
         → (eqb (fileV bs) (r .vertices) && eqb (fileT bs) (r .triangles)) ≡ complete S vs ts (fileV bs) (fileT bs)
@@ -115,7 +110,7 @@ module _ (L : Lattice) (s : Sized (L .size)) (start : ℕ) (h : start < cubes (L
         (λ k. eqb (fileV bs) (vertices-are k) && eqb (fileT bs) (triangles-are k))
         ∙ complete-is L s start h vs ts (fileT bs)
         (λ k l. listed S vs ts k (first-before (badNaming S vs ts) (fileT bs) k (subst (λ (n : ℕ). k < n) (sym f) l))) (fileV bs)
-        (λ k l. recorded L S vs k (first-before (badRecord L S vs) (fileV bs) k (subst (λ (n : ℕ). k < n) (sym o) l)))
+        (λ k l. recorded (vertexRecord L) S vs (parts L start .records) k (first-before (badRecord S vs) (fileV bs) k (subst (λ (n : ℕ). k < n) (sym o) l)))
 
     -- what the work slices tell is what the sheet tells
     pub same-answer : judge (foundTests L bs r (work words blank slots)) ≡ judge (lastTests L start bs)
@@ -158,48 +153,48 @@ pub last-clears : (L : Lattice) (start : ℕ) (bs : List ℕ) → clears (judge 
 unfolding lastTests sheetTests
 last-clears L start bs = judge-among (λ n. clears n ≡ true) (lastTests L start bs) (refl, (refl, (refl, tt))) (λ z. refl)
 
--- the three work slices after an answer
-abbrev pub leftAfter : Sizes → ℕ → Work → Work
-leftAfter z number w =
-    work (workAfter number (needed z) (w .words)) (workAfter number (needed z) (w .waiting)) (workAfter number (neededSlots z) (w .slots))
-
-pub all-kept : (z : Sizes) (number : ℕ) (w : Work) → clears number ≡ false → w ≡ leftAfter z number w
-all-kept z number w e =
-    sym
-    (λ k. work (work-kept number (needed z) (w .words) e k) (work-kept number (needed z) (w .waiting) e k) (work-kept number (neededSlots z) (w .slots) e k))
-
-pub all-cleared : (z : Sizes) (number : ℕ) (w : Work) → clears number ≡ true
-    → work (cleared (needed z) (w .words)) (cleared (needed z) (w .waiting)) (cleared (neededSlots z) (w .slots)) ≡ leftAfter z number w
-all-cleared z number w e =
-    sym
-    (λ k. work (work-cleared number (needed z) (w .words) e k) (work-cleared number (needed z) (w .waiting) e k) (work-cleared number (neededSlots z) (w .slots) e k))
-
 -- ── the whole ──
 
-module _ (L : Lattice) (s : Start) (bs : List ℕ) (w q e : ℕ) where
+module _ (L : Lattice) (s : Start) (bs : List ℕ) (n : Lengths) where
   abbrev a : List Test
-  a = sampleTests L s w q e
+  a = sampleTests L s n
 
   abbrev c : List Test
-  c = sheetTests L (sheetOf L (startOf L s)) bs
+  c = sheetTests (L .size) (sheetOf L (startOf L s)) bs
 
-  pub checked-samples : (judge a .number ≡ 0 → ⊥) → checked L s bs w q e ≡ judge a
+  pub checked-samples : (judge a .number ≡ 0 → ⊥) → checked L s bs n ≡ judge a
   unfolding checked
   checked-samples h = judge-first a (fileTests bs) c h
 
-  pub checked-file : judge a .number ≡ 0 → (judge (fileTests bs) .number ≡ 0 → ⊥) → checked L s bs w q e ≡ judge (fileTests bs)
+  pub checked-file : judge a .number ≡ 0 → (judge (fileTests bs) .number ≡ 0 → ⊥) → checked L s bs n ≡ judge (fileTests bs)
   unfolding checked
-  checked-file z h = judge-second a (fileTests bs) c (sample-numbered L s w q e) z h
+  checked-file z h = judge-second a (fileTests bs) c (sample-numbered L s n) z h
 
-  checked-sheet : judge a .number ≡ 0 → judge (fileTests bs) .number ≡ 0 → checked L s bs w q e ≡ judge c
+  checked-sheet : judge a .number ≡ 0 → judge (fileTests bs) .number ≡ 0 → checked L s bs n ≡ judge c
   unfolding checked
-  checked-sheet z y = judge-third a (fileTests bs) c (sample-numbered L s w q e) (file-numbered bs) z y
+  checked-sheet z y = judge-third a (fileTests bs) c (sample-numbered L s n) (file-numbered bs) z y
 
-  pub checked-sizes : judge a .number ≡ 0 → judge (fileTests bs) .number ≡ 0 → sameSizes (fileSizes bs) (L .size) ≡ false → checked L s bs w q e ≡ verdict 16 0
+  pub checked-sizes : judge a .number ≡ 0 → judge (fileTests bs) .number ≡ 0 → sameSizes (fileSizes bs) (L .size) ≡ false → checked L s bs n ≡ verdict 16 0
   unfolding sheetTests
   checked-sizes z y f = checked-sheet z y ∙ ap (λ (b : Bool). cond b (judge (drop 1 c)) (verdict 16 0)) f
 
   pub checked-last : judge a .number ≡ 0 → judge (fileTests bs) .number ≡ 0 → sameSizes (fileSizes bs) (L .size) ≡ true
-      → checked L s bs w q e ≡ judge (lastTests L (startOf L s) bs)
+      → checked L s bs n ≡ judge (lastTests L (startOf L s) bs)
   unfolding sheetTests lastTests
   checked-last z y f = checked-sheet z y ∙ ap (λ (b : Bool). cond b (judge (drop 1 c)) (verdict 16 0)) f
+
+-- the answer of a check, and what it then leaves: work room as it was, or clear
+module _ (L : Lattice) (s : Start) (bs : List ℕ) (before : Work) (r : Verdict) (is : r ≡ checked L s bs (lengths before)) where
+  pub kept : clears (r .number) ≡ false → Checks L s bs before r before
+  unfolding checkedAfter
+  kept e = record {
+    answer = is;
+    left = sym (ap (λ (v : Verdict). workAfter (v .number) (L .size) before) (sym is) ∙ work-kept (r .number) (L .size) before e);
+  }
+
+  pub emptied : clears (r .number) ≡ true → (after : Work) → after ≡ clean (L .size) before → Checks L s bs before r after
+  unfolding checkedAfter
+  emptied e after c = record {
+    answer = is;
+    left = c ∙ sym (ap (λ (v : Verdict). workAfter (v .number) (L .size) before) (sym is) ∙ work-cleared (r .number) (L .size) before e);
+  }

@@ -35,8 +35,7 @@ fn compare(
     waiting: &mut [u32],
     slots: &mut [u32],
 ) -> Verdict
-    requires {
-        let lent = work (now words) (now waiting) (now slots) in
+    requires { let lent = work (now words) (now waiting) (now slots) in
         ⌜ Comparable (lattice sizes (now samples)) (now bytes) lent × Roomy sizes (lengths lent) ⌝ }
     ensures { λ r.
         let before = work (now (words .entry)) (now (waiting .entry)) (now (slots .entry)) in
@@ -87,8 +86,7 @@ fn last_tests(
     waiting: &mut [u32],
     slots: &mut [u32],
 ) -> Verdict
-    requires {
-        let lent = work (now words) (now waiting) (now slots) in
+    requires { let lent = work (now words) (now waiting) (now slots) in
         ⌜ Full (lattice sizes (now samples)) × (start < cubes sizes) × LaidOut (now bytes) × Roomy sizes (lengths lent) ⌝ }
     ensures { λ r.
         let before = work (now (words .entry)) (now (waiting .entry)) (now (slots .entry)) in

@@ -4,10 +4,10 @@ use mathlib.Core.List.{List}
 use Prim.Native.Nat.{ℕ}
 use native.Mathlib.Omega.{arith}
 use denote.Ref.{now}
-use Rattle.paper.specs.Room.{needed, Work, work}
+use Rattle.paper.specs.Room.{needed, Work, work, lengths}
 use Rattle.lists.specs.Lists.{cleared}
 use Rattle.paper.specs.Lattice.{Lattice, lattice}
-use Rattle.checker.specs.Checked.{Roomy}
+use Rattle.paper.specs.Within.{Roomy}
 use Rattle.checker.proofs.Verdicts.{comparable, same-answer, cleaned}
 use borrow.Author.Needs.{needs}
 use Rattle.checker.proofs.last_tests.Statement.{statement}
@@ -36,7 +36,7 @@ module _ (c : tie.After-clear-list) where
   blank : c .clear-list .last .0 ≡ cleared (needed (s .args .sizes)) waiting
   blank = c .clear-list .ensures ∙ ap (λ (n : ℕ). cleared n waiting) (c .before .before .cube-count .ensures .0)
 
-  room : Roomy (s .args .sizes) (work words (c .clear-list .last .0) slots)
+  room : Roomy (s .args .sizes) (lengths (work words (c .clear-list .last .0) slots))
   room =
       let kept = c .before .before .before .before .before .before .before .before .before .measure .kept in
       record {
