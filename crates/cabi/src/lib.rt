@@ -36,7 +36,10 @@ pub extern "C" fn malxuqeed_build(
     waiting: &mut [u32],
     slots: &mut [u32],
 ) -> Built
-    ensures { λ r. ⌜ Builds (lattice sizes (now (samples .entry))) (startIf named start) (lent (now (vertices .entry)) (now (triangles .entry)) (now (words .entry)) (now (waiting .entry)) (now (slots .entry))) r (lent (now (vertices .exit)) (now (triangles .exit)) (now (words .exit)) (now (waiting .exit)) (now (slots .exit))) ⌝ }
+    ensures { λ r.
+        let before = lent (now (vertices .entry)) (now (triangles .entry)) (work (now (words .entry)) (now (waiting .entry)) (now (slots .entry))) in
+        let after = lent (now (vertices .exit)) (now (triangles .exit)) (work (now (words .exit)) (now (waiting .exit)) (now (slots .exit))) in
+        ⌜ Builds (lattice sizes (now (samples .entry))) (startIf named start) before r after ⌝ }
 {
     let at = start_if(named, start);
     sheet::build(
@@ -83,7 +86,10 @@ pub extern "C" fn malxuqeed_check(
     waiting: &mut [u32],
     slots: &mut [u32],
 ) -> Verdict
-    ensures { λ r. ⌜ Checks (lattice sizes (now (samples .entry))) (startIf named start) (now (bytes .entry)) (work (now (words .entry)) (now (waiting .entry)) (now (slots .entry))) r (work (now (words .exit)) (now (waiting .exit)) (now (slots .exit))) ⌝ }
+    ensures { λ r.
+        let before = work (now (words .entry)) (now (waiting .entry)) (now (slots .entry)) in
+        let after = work (now (words .exit)) (now (waiting .exit)) (now (slots .exit)) in
+        ⌜ Checks (lattice sizes (now (samples .entry))) (startIf named start) (now (bytes .entry)) before r after ⌝ }
 {
     let at = start_if(named, start);
     checker::check(samples, sizes, at, bytes, words, waiting, slots)

@@ -3,7 +3,7 @@ use mathlib.Core.Path.{_≡_}
 use mathlib.Core.Bool.{Bool, cond, _&&_}
 use mathlib.Core.List.{List, [], _∷_, map}
 use Prim.Native.Nat.{ℕ, _+_, _*_}
-use lib.IntN.{ℤ}
+use lib.IntN.{ℤ, pos}
 use lib.Dec.{leb, eqb}
 use lib.ListN.{length, replicate}
 use Rattle.lists.specs.Lists.{range}
@@ -13,6 +13,8 @@ use Rattle.paper.specs.declared.Built.{Built}
 use Rattle.paper.specs.declared.Start.the-variants.{Unnamed}
 use Rattle.paper.specs.Lattice.{Lattice, lattice, axes, samples}
 use Rattle.paper.specs.Tests.{Test, test, judge}
+use Rattle.paper.specs.Sheet.{recordLength}
+use Rattle.paper.specs.Room.{work}
 use Rattle.paper.specs.Build.{Lent, lent, uncounted, built, lentAfter}
 
 -- the signed 16-bit number that bits give
@@ -46,15 +48,25 @@ listingTests bs =
 unfoldable pub listingNumber : List ℕ → ℕ
 listingNumber bs = judge (listingTests bs) .number
 
--- the room of a listing: two slices for the sheet, and its own work room
-unfoldable pub listingRoom : List ℤ → List ℕ → Lent
-listingRoom vs ts = lent vs ts (replicate 343 0) (replicate 343 0) (replicate 3584 0)
+-- "Its own room is .. 1,000 vertices and 2,000 triangles."
+abbrev pub vertexNumbers : ℕ
+vertexNumbers = recordLength * 1000
 
--- "and names no start": the answer, the first test that fails, or what a build answers
-unfoldable pub listed : List ℕ → List ℤ → List ℕ → Built
-listed bs vs ts =
+abbrev pub triangleNumbers : ℕ
+triangleNumbers = 3 * 2000
+
+-- what a listing lends: two slices for the sheet, and work room for 8 samples an axis
+unfoldable pub listingRoom : List ℤ → List ℕ → Lent
+listingRoom vs ts = lent vs ts (work (replicate 343 0) (replicate 343 0) (replicate 3584 0))
+
+abbrev pub ownRoom : Lent
+ownRoom = listingRoom (replicate vertexNumbers (pos 0)) (replicate triangleNumbers 0)
+
+-- "and names no start": the answer, the first test that fails, or what a build in that room answers
+unfoldable pub listed : List ℕ → Built
+listed bs =
     let n = listingNumber bs in
-    cond (eqb n 0) (built (listedLattice bs) Unnamed (listingRoom vs ts)) (uncounted n)
+    cond (eqb n 0) (built (listedLattice bs) Unnamed ownRoom) (uncounted n)
 
 -- what the room for the sheet then holds
 unfoldable pub listedAfter : List ℕ → List ℤ → List ℕ → Lent
@@ -63,6 +75,6 @@ listedAfter bs vs ts =
 
 -- the contract of a listing: its answer, and the sheet that it leaves
 pub record Lists (bs : List ℕ) (vs : List ℤ) (ts : List ℕ) (r : Built) (vs′ : List ℤ) (ts′ : List ℕ) : Type 0 where
-  pub answer : r ≡ listed bs vs ts
+  pub answer : r ≡ listed bs
   pub vertices : vs′ ≡ listedAfter bs vs ts .vertices
   pub triangles : ts′ ≡ listedAfter bs vs ts .triangles

@@ -88,7 +88,11 @@ fn tested(input: &[u8]) -> usize
 
 // The sheet of samples, in work room of its own.
 fn mesh(samples: &[i16], sizes: Sizes, vertices: &mut [i32], triangles: &mut [u32]) -> Built
-    ensures { λ r. ⌜ (r ≡ built (lattice sizes (now (samples .entry))) Unnamed (listingRoom (now (vertices .entry)) (now (triangles .entry)))) × (now (vertices .exit) ≡ lentAfter (lattice sizes (now (samples .entry))) Unnamed (listingRoom (now (vertices .entry)) (now (triangles .entry))) .vertices) × (now (triangles .exit) ≡ lentAfter (lattice sizes (now (samples .entry))) Unnamed (listingRoom (now (vertices .entry)) (now (triangles .entry))) .triangles) ⌝ }
+    ensures { λ r.
+        let L = lattice sizes (now (samples .entry)) in
+        let room = listingRoom (now (vertices .entry)) (now (triangles .entry)) in
+        let left = lentAfter L Unnamed room in
+        ⌜ (r ≡ built L Unnamed room) × (now (vertices .exit) ≡ left .vertices) × (now (triangles .exit) ≡ left .triangles) ⌝ }
 {
     let mut words = [0u16; 343];
     let mut waiting = [0u32; 343];
@@ -105,8 +109,8 @@ fn mesh(samples: &[i16], sizes: Sizes, vertices: &mut [i32], triangles: &mut [u3
     )
 }
 
-// The sheet that bytes list, or the number of the first test that fails.
-pub fn list(input: &[u8], vertices: &mut [i32], triangles: &mut [u32]) -> Built
+// The sheet that bytes list, or the number of the first test that fails. "Its own room is .. 1,000 vertices and 2,000 triangles."
+pub fn list(input: &[u8], vertices: &mut [i32; 4000], triangles: &mut [u32; 6000]) -> Built
     ensures { λ r. ⌜ Lists (now (input .entry)) (now (vertices .entry)) (now (triangles .entry)) r (now (vertices .exit)) (now (triangles .exit)) ⌝ }
 {
     let number = tested(input);

@@ -3,6 +3,7 @@ use mathlib.Core.Path.{subst}
 use denote.Ref.{now}
 use Rattle.paper.specs.declared.Start.{Start}
 use Rattle.paper.specs.Lattice.{lattice}
+use Rattle.paper.specs.Room.{work}
 use Rattle.paper.specs.Build.{lent, Builds}
 use borrow.Author.Needs.{needs}
 use Rattle.cabi.proofs.malxuqeed_build.Statement.{statement}
@@ -35,8 +36,10 @@ returns c =
     let at-start-if = at-build .before .before .before .before .before .before in
     let s = at-start-if .before .before .before .before .before in
     let a = s .args in
-    subst (λ (s : Start). Builds (lattice (a .sizes) (now (a .samples))) s (lent (now (a .vertices)) (now (a .triangles)) (now (a .words)) (now (a .waiting)) (now (a .slots))) (at-build .build .result) (lent (at-build .build .last .1 .1 .1 .0) (at-build .build .last .1 .1 .1 .1 .0) (at-build .build .last .1 .1 .1 .1 .1 .0) (at-build .build .last .1 .1 .1 .1 .1 .1 .0) (at-build .build .last .1 .1 .1 .1 .1 .1 .1 .0)))
-    (at-start-if .start-if .ensures)
+    let before = lent (now (a .vertices)) (now (a .triangles)) (work (now (a .words)) (now (a .waiting)) (now (a .slots))) in
+    let left = at-build .build .last .1 .1 .1 in
+    let after = lent (left .0) (left .1 .0) (work (left .1 .1 .0) (left .1 .1 .1 .0) (left .1 .1 .1 .1 .0)) in
+    subst (λ (s : Start). Builds (lattice (a .sizes) (now (a .samples))) s before (at-build .build .result) after) (at-start-if .start-if .ensures)
     (at-build .build .ensures)
 
 pub malxuqeed-build-spec : {M : Type 1} → statement M

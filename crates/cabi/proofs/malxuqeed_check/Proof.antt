@@ -30,9 +30,11 @@ returns c =
     let at-start-if = at-check .before .before .before .before in
     let s = at-start-if .before .before .before .before .before in
     let a = s .args in
-    subst (λ (s : Start). Checks (lattice (a .sizes) (now (a .samples))) s (now (a .bytes)) (work (now (a .words)) (now (a .waiting)) (now (a .slots))) (at-check .check .result) (work (at-check .check .last .1 .1 .1 .1 .0) (at-check .check .last .1 .1 .1 .1 .1 .0) (at-check .check .last .1 .1 .1 .1 .1 .1 .0)))
-    (at-start-if .start-if .ensures)
-    (at-check .check .ensures)
+    let before = work (now (a .words)) (now (a .waiting)) (now (a .slots)) in
+    let left = at-check .check .last .1 .1 .1 .1 in
+    let after = work (left .0) (left .1 .0) (left .1 .1 .0) in
+    subst (λ (s : Start). Checks (lattice (a .sizes) (now (a .samples))) s (now (a .bytes)) before (at-check .check .result) after)
+    (at-start-if .start-if .ensures) (at-check .check .ensures)
 
 pub malxuqeed-check-spec : {M : Type 1} → statement M
 malxuqeed-check-spec =
