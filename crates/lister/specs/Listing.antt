@@ -59,7 +59,7 @@ triangleNumbers = 3 * 2000
 unfoldable pub listingRoom : List ℤ → List ℕ → Lent
 listingRoom vs ts = lent vs ts (work (replicate 343 0) (replicate 343 0) (replicate 3584 0))
 
-abbrev pub ownRoom : Lent
+unfoldable pub ownRoom : Lent
 ownRoom = listingRoom (replicate vertexNumbers (pos 0)) (replicate triangleNumbers 0)
 
 -- "and names no start": the answer, the first test that fails, or what a build in that room answers

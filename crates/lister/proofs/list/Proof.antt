@@ -13,11 +13,11 @@ use borrow.Author.Needs.{needs}
 use Rattle.lister.proofs.list.Statement.{statement}
 use Rattle.lister.proofs.list.Tie as tie
 
-passed : (c : tie.Else1) → Readable (now (c .before .before .before .before .args .input))
+passed : (c : tie.Else1) → Readable (now (c .before .before .before .args .input))
 passed c = readable _ (sym (c .before .tested .ensures) ∙ c .if1 .left)
 
 -- as many samples as the sizes say, which the room holds
-count : (c : tie.After-sample-count) → c .sample-count .result ≡ samples (listedSizes (now (c .before .before .before .before .before .before .args .input)))
+count : (c : tie.After-sample-count) → c .sample-count .result ≡ samples (listedSizes (now (c .before .before .before .before .before .args .input)))
 count c = c .sample-count .ensures .0 ∙ ap samples (c .before .sizes-of .ensures)
 
 fits : (c : tie.After-get-i16s) → c .before .before .sample-count .result ≤ length (c .get-i16s .last .1 .1 .0)
@@ -30,7 +30,7 @@ tested-requires c κs = search needs
 
 returns : tie.Need-returns
 returns c =
-    let a = c .before .before .before .before .args in
+    let a = c .before .before .before .args in
     list-refused (now (a .input)) (now (a .vertices)) (now (a .triangles)) (c .before .tested .result) (c .before .tested .ensures) (c .if1 .taken)
 
 sizes-of-requires : tie.Need-sizes-of-requires
@@ -57,23 +57,16 @@ slice-aggregate-mesh c = sym (length-take-le _ _ (fits (c .before .before)))
 mesh-requires : tie.Need-mesh-requires
 mesh-requires c κs = search needs
 
-same-length : tie.Need-same-length
-same-length c = search needs
-
-same-length-2 : tie.Need-same-length-2
-same-length-2 c = search needs
-
 returns-2 : tie.Need-returns-2
 returns-2 c =
-    let m = c .before .before .before in
-    let g = m .before .before .before .before .before in
+    let g = c .before .before .before .before .before in
     let n = g .before .before in
     let t = n .before .before in
-    let a = t .before .before .before .before .args in
-    list-done (now (a .input)) (now (a .vertices)) (now (a .triangles)) (sym (t .before .tested .ensures) ∙ t .if1 .left)
+    let a = t .before .before .before .args in
+    list-done (now (a .input)) (now (a .vertices)) (now (a .triangles)) (search needs) (search needs) (sym (t .before .tested .ensures) ∙ t .if1 .left)
     _ (n .before .sizes-of .ensures) _
     (ap (take (n .sample-count .result)) (g .get-i16s .ensures) ∙ samples-are (now (a .input)) (n .sample-count .result) _ (count n) (omega (arith, count n, passed t .few)))
-    _ (m .mesh .ensures .0) _ (m .mesh .ensures .1) _ (m .mesh .ensures .2)
+    _ (c .mesh .ensures .0) _ (c .mesh .ensures .1) _ (c .mesh .ensures .2)
 
 pub list-spec : {M : Type 1} → statement M
 list-spec =
@@ -88,6 +81,4 @@ list-spec =
     array-share-prefix-samples
     slice-aggregate-mesh
     mesh-requires
-    same-length
-    same-length-2
     returns-2)

@@ -1,23 +1,22 @@
 -- `printer::listing` is safe and ends: a sheet that is not refused lies within its room. Assumes nothing.
 use mathlib.Core.Path.{sym, subst, ap, _∙_}
+use Prim.Native.Nat.{ℕ}
 use native.Mathlib.Omega.{arith}
+use lib.IntN.{ℤ, pos}
+use lib.ListN.{length, length-replicate}
 use Rattle.paper.specs.declared.Built.{Built}
-use Rattle.lister.proofs.Fits.{Fits, listing-fits}
+use Rattle.lister.proofs.Fits.{Fits, listing-fits, listed-vertices, listed-triangles}
 use borrow.Author.Needs.{needs}
 use Rattle.printer.proofs.listing.Statement.{statement}
 use Rattle.printer.proofs.listing.Tie as tie
 
-fits : (c : tie.Else1) → Fits (c .before .before .before .before .list .result) 4000 6000
+abbrev list : tie.Else1 → tie.After-list
+list c = c .before .before
+
+fits : (c : tie.Else1) → Fits (list c .list .result) 4000 6000
 fits c =
-    let l = c .before .before .before .before in
-    let e = l .list .ensures .answer in
-    subst (λ (r : Built). Fits r 4000 6000) (sym e) (listing-fits _ _ _ (ap (λ (r : Built). r .number) (sym e) ∙ c .if1 .left))
-
-slice-aggregate-list : tie.Need-slice-aggregate-list
-slice-aggregate-list c = search needs
-
-slice-aggregate-list-2 : tie.Need-slice-aggregate-list-2
-slice-aggregate-list-2 c = search needs
+    let e = list c .list .ensures .answer in
+    subst (λ (r : Built). Fits r 4000 6000) (sym e) (listing-fits _ (ap (λ (r : Built). r .number) (sym e) ∙ c .if1 .left))
 
 list-requires : tie.Need-list-requires
 list-requires c κs = search needs
@@ -32,20 +31,20 @@ counts-requires : tie.Need-counts-requires
 counts-requires c κs = search needs
 
 slice-aggregate-vertices : tie.Need-slice-aggregate-vertices
-slice-aggregate-vertices c = search needs
+slice-aggregate-vertices c =
+    let e = list (c .before .before) .list .ensures .vertices in
+    sym (ap length e ∙ (listed-vertices _ _ _ ∙ length-replicate {A = ℤ} 4000 (pos 0)))
 
 vertices-requires : tie.Need-vertices-requires
-vertices-requires c κs =
-    let passed = c .before .before in
-    omega (arith, fits passed .vertices, passed .before .before .before .before .list .kept)
+vertices-requires c κs = omega (arith, fits (c .before .before) .vertices, slice-aggregate-vertices c)
 
 slice-aggregate-triangles : tie.Need-slice-aggregate-triangles
-slice-aggregate-triangles c = search needs
+slice-aggregate-triangles c =
+    let e = list (c .before .before .before .before) .list .ensures .triangles in
+    sym (ap length e ∙ (listed-triangles _ _ _ ∙ length-replicate {A = ℕ} 6000 0))
 
 triangles-requires : tie.Need-triangles-requires
-triangles-requires c κs =
-    let passed = c .before .before .before .before in
-    omega (arith, fits passed .triangles, passed .before .before .before .before .list .kept)
+triangles-requires c κs = omega (arith, fits (c .before .before .before .before) .triangles, slice-aggregate-triangles c)
 
 returns-2 : tie.Need-returns-2
 returns-2 c = search needs
@@ -54,8 +53,6 @@ pub listing-spec : {M : Type 1} → statement M
 listing-spec =
     tie.close
     (tie.spec
-    slice-aggregate-list
-    slice-aggregate-list-2
     list-requires
     refused-requires
     returns
