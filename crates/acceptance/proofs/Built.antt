@@ -16,16 +16,16 @@ use Rattle.paper.specs.declared.Start.{Start}
 use Rattle.paper.specs.declared.Verdict.{Verdict}
 use Rattle.paper.specs.declared.Built.{Built}
 use Rattle.paper.specs.declared.Wrote.{Wrote}
-use Rattle.paper.specs.Lattice.{Lattice, samples}
+use Rattle.paper.specs.Lattice.{Lattice}
 use Rattle.paper.specs.Tables.{tri}
-use Rattle.paper.specs.Sheet.{Sheet, sheetOf, vertexRecord, vertexWords, triangleWords}
-use Rattle.paper.specs.Room.{outputAfter}
+use Rattle.paper.specs.Sheet.{Sheet, edgeNumbers, sheetOf, vertexRecord, vertexWords, triangleWords}
+use Rattle.paper.specs.Room.{Lengths, outputAfter}
 use Rattle.paper.specs.Within.{Sized, Below}
 use Rattle.paper.specs.Tests.{judge}
 use Rattle.paper.specs.Build.{Lent, startOf, sampleTests, buildNumber, counted, built, lentAfter, Builds}
 use Rattle.paper.specs.File.{contentOf, fileBytes, writeVerdict, Writes}
 use Rattle.paper.specs.Check.{recordOf, edgeOf, cornerOf, triangleOf, sameNumbers, turned, checked}
-use Rattle.paper.proofs.Listing.{named, edges-lt, sheet-positioned, indices-below, indices-name, record-length, vertex-words-length, triangle-words-length}
+use Rattle.paper.proofs.Listing.{named, parts, sheet-edges-lt, sheet-positioned, indices-below, indices-name, record-length, vertex-words, vertex-words-length, triangle-words-length}
 use Rattle.paper.proofs.Crossing.{Positioned}
 use Rattle.tetra.proofs.Laws.{three}
 use Rattle.lattice.proofs.Laws.{samples-few}
@@ -38,7 +38,7 @@ use Rattle.sheetfile.specs.Trips.{Holds}
 use Rattle.sheetfile.proofs.Answers.{taken, taken-verdict}
 use Rattle.sheetfile.proofs.Written.{written}
 use Rattle.sheetfile.proofs.RoundTrips.{written-bytes}
-use Rattle.acceptance.specs.Holding.{fileRecords, fileTriples, sheetRecords, Holding}
+use Rattle.acceptance.specs.Holding.{fileRecords, fileTriples, Holding}
 use Rattle.acceptance.proofs.Exact.{accepted-exactly}
 
 -- ── lists ──
@@ -75,18 +75,19 @@ module _ (L : Lattice) (s : Sized (L .size)) (start : ℕ) where
   nt = length (S .triangles)
 
   abbrev vw : List ℤ
-  vw = vertexWords L S
+  vw = vertexWords S
 
   abbrev tw : List ℕ
   tw = triangleWords S
 
-  records-are : map (recordOf vw) (range 0 nv) ≡ map (vertexRecord L) (S .edges)
-  unfolding vertexWords
-  records-are = run-is (recordOf vw) (vertexRecord L) (S .edges) 0 (record-at L (S .edges))
+  record-of : (i : ℕ) → i < nv → recordOf vw i ≡ vertexRecord L (getD (S .edges) i 0)
+  record-of i h = ap (λ (l : List ℤ). recordOf l i) (vertex-words L start) ∙ record-at L (S .edges) i h
+
+  records-are : map (recordOf vw) (range 0 nv) ≡ S .records
+  records-are = run-is (recordOf vw) (vertexRecord L) (S .edges) 0 record-of ∙ sym (parts L start .records)
 
   edge-at : (k : ℕ) → k < nv → natAbs (edgeOf vw k) ≡ getD (S .edges) k 0
-  unfolding vertexWords
-  edge-at k h = ap natAbs (record-edge L vw k (getD (S .edges) k 0) (record-at L (S .edges) k h))
+  edge-at k h = ap natAbs (record-edge L vw k (getD (S .edges) k 0) (record-of k h))
 
   triangles-are : map (triangleOf vw tw) (range 0 nt) ≡ S .byEdge
   unfolding triangleOf cornerOf triangleWords named
@@ -104,13 +105,12 @@ module _ (L : Lattice) (s : Sized (L .size)) (start : ℕ) where
 
   -- each is a signed 32-bit number
   words-fit : Words vw
-  unfolding vertexWords sheetOf
   words-fit =
       all-getD (SFits w32) vw (pos 0) (record { sfits = omega arith })
-      (all-each (SFits w32) (vertexRecord L) (S .edges)
-      (fits (S .edges) (sheet-positioned L s start) (unfold sheetOf in (edges-lt L _))))
+      (subst (All (SFits w32)) (sym (vertex-words L start))
+      (all-each (SFits w32) (vertexRecord L) (S .edges) (fits (S .edges) (sheet-positioned L s start) (sheet-edges-lt L start))))
     where
-      fits : (l : List ℕ) → All (Positioned L) l → All (λ e. e < 7 * samples (L .size)) l → All (λ e. All (SFits w32) (vertexRecord L e)) l
+      fits : (l : List ℕ) → All (Positioned L) l → All (λ e. e < edgeNumbers (L .size)) l → All (λ e. All (SFits w32) (vertexRecord L e)) l
       fits [] p q = tt
       fits (e ∷ l) p q =
           let r = p .0 in
@@ -122,7 +122,7 @@ module _ (L : Lattice) (s : Sized (L .size)) (start : ℕ) where
 
   -- a file with these words holds the sheet
   holding : (bs : List ℕ) → Holds bs (L .size) nv nt vw tw → Holding L start bs
-  unfolding fileRecords fileTriples sheetRecords
+  unfolding fileRecords fileTriples
   holding bs h = record {
     vertices = λ r. ap (count (sameNumbers r)) ((λ j. map (recordOf (h .vertices j)) (range 0 (h .count-v j))) ∙ records-are);
     triangles = λ t. ap (count (turned t)) ((λ j. map (triangleOf (h .vertices j) (h .triangles j)) (range 0 (h .count-t j))) ∙ triangles-are);
@@ -131,13 +131,14 @@ module _ (L : Lattice) (s : Sized (L .size)) (start : ℕ) where
 -- ── build, then write, then check ──
 
 -- a build that succeeds
-record Made (L : Lattice) (s : Start) (before : Lent) (r : Built) (after : Lent) : Type 0 where
-  vertices : r .vertices ≡ length (sheetOf L (startOf L s) .edges)
-  triangles : r .triangles ≡ length (sheetOf L (startOf L s) .triangles)
-  vertex-words : after .vertices ≡ over (vertexWords L (sheetOf L (startOf L s))) (before .vertices)
-  triangle-words : after .triangles ≡ over (triangleWords (sheetOf L (startOf L s))) (before .triangles)
+pub record Made (L : Lattice) (s : Start) (before : Lent) (r : Built) (after : Lent) : Type 0 where
+  pub vertices : r .vertices ≡ length (sheetOf L (startOf L s) .edges)
+  pub triangles : r .triangles ≡ length (sheetOf L (startOf L s) .triangles)
+  pub cubes : r .cubes ≡ sheetOf L (startOf L s) .visits
+  pub vertex-words : after .vertices ≡ over (vertexWords (sheetOf L (startOf L s))) (before .vertices)
+  pub triangle-words : after .triangles ≡ over (triangleWords (sheetOf L (startOf L s))) (before .triangles)
 
-made : {L : Lattice} {s : Start} {before : Lent} {r : Built} {after : Lent} → Builds L s before r after → r .number ≡ 0 → Made L s before r after
+pub made : {L : Lattice} {s : Start} {before : Lent} {r : Built} {after : Lent} → Builds L s before r after → r .number ≡ 0 → Made L s before r after
 unfolding lentAfter outputAfter
 made {L} {s} {before} {r} {after} b e =
     let z : built L s before .number ≡ 0 = sym (ap (λ (x : Built). x .number) (b .answer)) ∙ e in
@@ -146,6 +147,7 @@ made {L} {s} {before} {r} {after} b e =
     record {
       vertices = ap (λ (x : Built). x .vertices) q;
       triangles = ap (λ (x : Built). x .triangles) q;
+      cubes = ap (λ (x : Built). x .cubes) q;
       vertex-words = ap (λ (x : Lent). x .vertices) (b .left) ∙ rw n;
       triangle-words = ap (λ (x : Lent). x .triangles) (b .left) ∙ rw n;
     }
@@ -161,56 +163,56 @@ module _ (L : Lattice) (sz : Sized (L .size)) (start : ℕ) (old : List ℤ) (ol
   N′ = length (T′ .triangles)
 
   -- a writer's file of the slices is the file of the sheet's words
-  same-file : fileBytes (contentOf (L .size) V′ N′ (over (vertexWords L T′) old) (over (triangleWords T′) old′))
-      ≡ fileBytes (contentOf (L .size) V′ N′ (vertexWords L T′) (triangleWords T′))
+  same-file : fileBytes (contentOf (L .size) V′ N′ (over (vertexWords T′) old) (over (triangleWords T′) old′))
+      ≡ fileBytes (contentOf (L .size) V′ N′ (vertexWords T′) (triangleWords T′))
   same-file =
-      let a = take-append-le (4 * V′) (vertexWords L T′) (drop (length (vertexWords L T′)) old) (omega (arith, vertex-words-length L T′)) in
+      let a = take-append-le (4 * V′) (vertexWords T′) (drop (length (vertexWords T′)) old) (omega (arith, vertex-words-length L start)) in
       let b = take-append-le (3 * N′) (triangleWords T′) (drop (length (triangleWords T′)) old′) (omega (arith, triangle-words-length T′)) in
       λ j. fileBytes (record { sizes = L .size; vertices = V′; triangles = N′; vertexWords = a j; triangleWords = b j })
 
   -- which a reader gets back
-  reads-back : writeVerdict (L .size) V′ N′ (over (vertexWords L T′) old) (over (triangleWords T′) old′) room .number ≡ 0
-      → Holds (fileBytes (contentOf (L .size) V′ N′ (vertexWords L T′) (triangleWords T′))) (L .size) V′ N′ (take (4 * V′) (vertexWords L T′)) (take (3 * N′) (triangleWords T′))
+  reads-back : writeVerdict (L .size) V′ N′ (over (vertexWords T′) old) (over (triangleWords T′) old′) room .number ≡ 0
+      → Holds (fileBytes (contentOf (L .size) V′ N′ (vertexWords T′) (triangleWords T′))) (L .size) V′ N′ (take (4 * V′) (vertexWords T′)) (take (3 * N′) (triangleWords T′))
   reads-back e =
-      let t = taken (L .size) V′ N′ (over (vertexWords L T′) old) (over (triangleWords T′) old′) room e in
-      let u : Taken (L .size) V′ N′ (vertexWords L T′) (triangleWords T′) room =
+      let t = taken (L .size) V′ N′ (over (vertexWords T′) old) (over (triangleWords T′) old′) room e in
+      let u : Taken (L .size) V′ N′ (vertexWords T′) (triangleWords T′) room =
       record {
         sized = t .sized;
         counts = record {
           most-v = t .counts .most-v;
           most-t = t .counts .most-t;
-          room-v = omega (arith, vertex-words-length L T′);
+          room-v = omega (arith, vertex-words-length L start);
           room-t = omega (arith, triangle-words-length T′);
         };
         good = first-same V′ N′ (over (triangleWords T′) old′) (triangleWords T′)
             (λ i h. sym (List·getD-append (triangleWords T′) (drop (length (triangleWords T′)) old′) 0 i (omega (arith, triangle-words-length T′)))) (t .good);
         roomy = t .roomy;
       } in
-      written (L .size) V′ N′ (vertexWords L T′) (triangleWords T′) room (words-fit L sz start)
-      (ap (λ (v : Verdict). v .number) (taken-verdict (L .size) V′ N′ (vertexWords L T′) (triangleWords T′) room u))
+      written (L .size) V′ N′ (vertexWords T′) (triangleWords T′) room (words-fit L sz start)
+      (ap (λ (v : Verdict). v .number) (taken-verdict (L .size) V′ N′ (vertexWords T′) (triangleWords T′) room u))
 
 -- what a build and then a write make is accepted, with any work slices that are long enough
 pub built-accepted : {L : Lattice} {s : Start} {before : Lent} {r : Built} {after : Lent} {bytes bytes′ : List ℕ} {w : Wrote}
     → Builds L s before r after → r .number ≡ 0
     → Writes (L .size) (r .vertices) (r .triangles) (after .vertices) (after .triangles) bytes w bytes′ → w .number ≡ 0
-    → (words waiting slots : ℕ) → judge (sampleTests L s words waiting slots) .number ≡ 0
-    → checked L s (take (w .bytes) bytes′) words waiting slots .number ≡ 0
-built-accepted {L} {s} {before} {r} {after} {bytes} {bytes′} {w} b e write f words waiting slots h =
+    → (n : Lengths) → judge (sampleTests L s n) .number ≡ 0
+    → checked L s (take (w .bytes) bytes′) n .number ≡ 0
+built-accepted {L} {s} {before} {r} {after} {bytes} {bytes′} {w} b e write f n h =
     let start = startOf L s in
     let S = sheetOf L start in
-    let t = sample-tests L s words waiting slots h in
+    let t = sample-tests L s n h in
     let m = made b e in
     let d = written-bytes write f in
     let nv = length (S .edges) in
     let nt = length (S .triangles) in
-    let p : writeVerdict (L .size) nv nt (over (vertexWords L S) (before .vertices)) (over (triangleWords S) (before .triangles)) (length bytes) .number ≡ 0 =
+    let p : writeVerdict (L .size) nv nt (over (vertexWords S) (before .vertices)) (over (triangleWords S) (before .triangles)) (length bytes) .number ≡ 0 =
     sym (λ j. writeVerdict (L .size) (m .vertices j) (m .triangles j) (m .vertex-words j) (m .triangle-words j) (length bytes) .number) ∙ d .passed in
     let q = reads-back L (t .sizes) start (before .vertices) (before .triangles) (length bytes) p in
     let same = d .bytes ∙ ((λ j. fileBytes (contentOf (L .size) (m .vertices j) (m .triangles j) (m .vertex-words j) (m .triangle-words j))) ∙ same-file L (t .sizes) start (before .vertices) (before .triangles) (length bytes)) in
-    let file = fileBytes (contentOf (L .size) nv nt (vertexWords L S) (triangleWords S)) in
-    let k : Holds file (L .size) nv nt (vertexWords L S) (triangleWords S) =
-    subst (λ (x : List ℤ). Holds file (L .size) nv nt x (triangleWords S)) (take-all (4 * nv) (vertexWords L S) (omega (arith, vertex-words-length L S)))
-    (subst (λ (y : List ℕ). Holds file (L .size) nv nt (take (4 * nv) (vertexWords L S)) y) (take-all (3 * nt) (triangleWords S) (omega (arith, triangle-words-length S))) q) in
-    subst (λ (x : List ℕ). checked L s x words waiting slots .number ≡ 0) (sym same)
-    (accepted-exactly L s file words waiting slots .always
+    let file = fileBytes (contentOf (L .size) nv nt (vertexWords S) (triangleWords S)) in
+    let k : Holds file (L .size) nv nt (vertexWords S) (triangleWords S) =
+    subst (λ (x : List ℤ). Holds file (L .size) nv nt x (triangleWords S)) (take-all (4 * nv) (vertexWords S) (omega (arith, vertex-words-length L start)))
+    (subst (λ (y : List ℕ). Holds file (L .size) nv nt (take (4 * nv) (vertexWords S)) y) (take-all (3 * nt) (triangleWords S) (omega (arith, triangle-words-length S))) q) in
+    subst (λ (x : List ℕ). checked L s x n .number ≡ 0) (sym same)
+    (accepted-exactly L s file n .always
     (record { samples = h; file = ap (λ (v : Verdict). v .number) (k .passes); sizes = k .sizes; holds = holding L (t .sizes) start file k }))

@@ -16,3 +16,4 @@ pub mod Steps
 pub mod Judged
 pub mod Tested
 pub mod Passing
+pub mod Agreement

@@ -1,7 +1,6 @@
 -- Laws of sheet files.
 pub mod Stored
 pub mod Answers
-pub mod Agreement
 pub mod Written
 pub mod Rewritten
 pub mod RoundTrips

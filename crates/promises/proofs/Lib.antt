@@ -1,0 +1,2 @@
+-- The page.
+pub mod Promises

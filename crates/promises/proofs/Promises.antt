@@ -1,0 +1,102 @@
+-- What is promised. The contracts of the entry points are `Builds`, `Writes`, `Reads` and `Checks` (paper/specs): each function is proved to
+-- meet its own, to be safe and to end, whatever it is given. Here stand the three demands and the round trips that follow from these
+-- contracts; each body is the theorem. What has to be believed are the definitions that the statements name. Assumes nothing.
+use mathlib.Core.Path.{_≡_}
+use mathlib.Core.List.{List}
+use Prim.Native.Nat.{ℕ, _*_, _≤_}
+use lib.IntN.{ℤ}
+use lib.ListN.{length, take}
+use Rattle.lists.specs.Lists.{over}
+use Rattle.paper.specs.declared.Sizes.{Sizes}
+use Rattle.paper.specs.declared.Start.{Start}
+use Rattle.paper.specs.declared.Built.{Built}
+use Rattle.paper.specs.declared.Wrote.{Wrote}
+use Rattle.paper.specs.declared.Got.{Got}
+use Rattle.paper.specs.declared.Verdict.{Verdict}
+use Rattle.paper.specs.Lattice.{Lattice}
+use Rattle.paper.specs.Sheet.{sheetOf, vertexWords, triangleWords}
+use Rattle.paper.specs.Tests.{judge, verdict}
+use Rattle.paper.specs.Room.{Work, Lengths, vertexRoom, triangleRoom}
+use Rattle.paper.specs.Build.{Lent, startOf, sampleTests, Builds}
+use Rattle.paper.specs.File.{fileWords, fileIndices, Writes, Reads}
+use Rattle.paper.specs.Check.{checked, Checks}
+use Rattle.codec.specs.Words.{Words, Bytes}
+use Rattle.sheetfile.specs.Trips.{Returned}
+use Rattle.acceptance.specs.Holding.{Acceptable, Exactly, EachOnce}
+use Rattle.pairing.specs.Pairing.{Demand3, fileEdges, fileCorners}
+use Rattle.paper.proofs.Agreement as agree
+use Rattle.sheetfile.proofs.RoundTrips as trips
+use Rattle.acceptance.proofs.Exact as exact
+use Rattle.acceptance.proofs.Built as made
+use Rattle.pairing.proofs.Demand as pairs
+
+-- ── 1. "Each call .. gives the refusal that document 01 numbers for it, and only then." ──
+
+-- the answer and every lent slice are settled: any two outcomes agree
+pub one-build : {L : Lattice} {s : Start} {before : Lent} {r r′ : Built} {after after′ : Lent}
+    → Builds L s before r after → Builds L s before r′ after′ → (r ≡ r′) × (after ≡ after′)
+one-build = agree.builds-agree
+
+pub one-write : {z : Sizes} {nv nt : ℕ} {vs : List ℤ} {ts before : List ℕ} {r r′ : Wrote} {after after′ : List ℕ}
+    → Writes z nv nt vs ts before r after → Writes z nv nt vs ts before r′ after′ → (r ≡ r′) × (after ≡ after′)
+one-write = agree.writes-agree
+
+pub one-read : {bs : List ℕ} {vs : List ℤ} {ts : List ℕ} {r r′ : Got} {us us′ : List ℤ} {ss ss′ : List ℕ}
+    → Reads bs vs ts r us ss → Reads bs vs ts r′ us′ ss′ → (r ≡ r′) × (us ≡ us′) × (ss ≡ ss′)
+one-read = agree.reads-agree
+
+pub one-check : {L : Lattice} {s : Start} {bs : List ℕ} {before : Work} {r r′ : Verdict} {after after′ : Work}
+    → Checks L s bs before r after → Checks L s bs before r′ after′ → (r ≡ r′) × (after ≡ after′)
+one-check = agree.checks-agree
+
+-- ── 2. "A sheet is exactly the one that document 01 builds"; "files are written and read back without loss" ──
+
+-- a build that answers 0 leaves the sheet's records and triangles at the front of what it was lent, and counts them
+pub sheet-built : {L : Lattice} {s : Start} {before : Lent} {r : Built} {after : Lent} → Builds L s before r after → r .number ≡ 0
+    → let S = sheetOf L (startOf L s) in
+    (r .vertices ≡ length (S .edges))
+    × (r .triangles ≡ length (S .triangles))
+    × (r .cubes ≡ S .visits)
+    × (after .vertices ≡ over (vertexWords S) (before .vertices))
+    × (after .triangles ≡ over (triangleWords S) (before .triangles))
+sheet-built b e = let m = made.made b e in (m .vertices, m .triangles, m .cubes, m .vertex-words, m .triangle-words)
+
+-- what was written, read with room, gives the sizes, the counts, every record and every triangle back
+pub written-read : {z : Sizes} {nv nt : ℕ} {vs us us′ : List ℤ} {ts ss ss′ before after : List ℕ} {r : Wrote} {g : Got}
+    → Words vs → Writes z nv nt vs ts before r after → r .number ≡ 0 → Reads (take (r .bytes) after) us ss g us′ ss′
+    → nv ≤ vertexRoom us → nt ≤ triangleRoom ss → Returned z nv nt (fileWords nv vs) (fileIndices nt ts) us ss g us′ ss′
+written-read v w e r a b = trips.read-of-written w v e r a b
+
+-- what was read, written with room, gives every byte back
+pub read-written : {bs : List ℕ} {vs vs′ : List ℤ} {ts ts′ before after : List ℕ} {g : Got} {r : Wrote}
+    → Bytes bs → Reads bs vs ts g vs′ ts′ → g .number ≡ 0 → Writes (g .sizes) (g .vertices) (g .triangles) vs′ ts′ before r after
+    → length bs ≤ length before → (r ≡ record { number = 0; place = 0; bytes = length bs }) × (after ≡ over bs before)
+read-written = trips.write-of-read
+
+-- ── 3. "accepts exactly when the file holds demand 2's vertices and triangles .. each once", and directed edges pair up ──
+
+module _ (L : Lattice) (s : Start) (bs : List ℕ) (n : Lengths) where
+  -- a check answers 0 exactly when sizes, start, work room and layout pass and the file holds the sheet
+  pub accepted-exactly : Exactly L s bs n
+  accepted-exactly = exact.accepted-exactly L s bs n
+
+  -- then each vertex and each triangle of the sheet is in the file once, and nothing else is
+  pub accepted-once : Acceptable L s bs n → EachOnce L (startOf L s) bs
+  accepted-once = exact.accepted-once L s bs n
+
+  -- "a directed triangle edge occurs once. Its reverse occurs once too, except .."; "Each side-changing tetrahedron edge of a visited cube
+  -- carries exactly one vertex.": of every file that is accepted
+  pub accepted-pairs : checked L s bs n ≡ verdict 0 0 → Demand3 L (startOf L s) (fileEdges bs) (fileCorners bs)
+  accepted-pairs = pairs.file L s bs n
+
+-- and of every sheet
+pub sheet-pairs : (L : Lattice) (s : Start) (n : Lengths) → judge (sampleTests L s n) .number ≡ 0
+    → let S = sheetOf L (startOf L s) in Demand3 L (startOf L s) (S .edges) (S .triangles)
+sheet-pairs = pairs.sheet
+
+-- what is built and written is accepted
+pub built-accepted : {L : Lattice} {s : Start} {before : Lent} {r : Built} {after : Lent} {bytes bytes′ : List ℕ} {w : Wrote}
+    → Builds L s before r after → r .number ≡ 0
+    → Writes (L .size) (r .vertices) (r .triangles) (after .vertices) (after .triangles) bytes w bytes′ → w .number ≡ 0
+    → (n : Lengths) → judge (sampleTests L s n) .number ≡ 0 → checked L s (take (w .bytes) bytes′) n .number ≡ 0
+built-accepted = made.built-accepted
