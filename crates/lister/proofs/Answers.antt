@@ -1,7 +1,7 @@
 -- The answer of a listing, refused or built, and its samples. Assumes nothing.
 use mathlib.Core.Path.{_≡_, refl, sym, ap, _∙_}
 use mathlib.Core.List.{List, map}
-use Prim.Native.Nat.{ℕ, _+_, _*_, _≤_}
+use Prim.Native.Nat.{ℕ, _+_, _*_, _/_, _≤_}
 use native.Mathlib.Omega.{arith}
 use borrow.Author.Tests.{ne-eqb}
 use lib.IntN.{ℤ, pos}
@@ -13,6 +13,7 @@ use Rattle.paper.specs.declared.Sizes.{Sizes}
 use Rattle.paper.specs.declared.Built.{Built}
 use Rattle.paper.specs.declared.Start.the-variants.{Unnamed}
 use Rattle.paper.specs.Lattice.{Lattice, lattice, samples}
+use Rattle.paper.specs.Sheet.{recordLength}
 use Rattle.paper.specs.Build.{uncounted, built, lentAfter}
 use Rattle.paper.proofs.Passing.{built-same}
 use Rattle.lists.proofs.Runs.{length-along}
@@ -34,8 +35,9 @@ pub own-built : (L : Lattice) (vs : List ℤ) (ts : List ℕ) → length vs ≡ 
     → built L Unnamed (listingRoom vs ts) ≡ built L Unnamed ownRoom
 unfolding listingRoom ownRoom
 own-built L vs ts ev et =
-    built-same L Unnamed (listingRoom vs ts) ownRoom (ev ∙ sym (length-replicate {A = ℤ} vertexNumbers (pos 0)))
-    (et ∙ sym (length-replicate {A = ℕ} triangleNumbers 0)) refl .0
+    built-same L Unnamed (listingRoom vs ts) ownRoom
+    (ap (λ (n : ℕ). n / recordLength) (ev ∙ sym (length-replicate {A = ℤ} vertexNumbers (pos 0))))
+    (ap (λ (n : ℕ). n / 3) (et ∙ sym (length-replicate {A = ℕ} triangleNumbers 0))) refl .0
 
 pub list-refused : (bs : List ℕ) (vs : List ℤ) (ts : List ℕ) (n : ℕ) → n ≡ listingNumber bs → (n ≡ 0 → ⊥) → Lists bs vs ts (uncounted n) vs ts
 unfolding listed listedAfter listingRoom

@@ -3,7 +3,7 @@
 use mathlib.Core.Path.{_≡_, refl, sym, ap, _∙_}
 use mathlib.Core.Bool.{Bool, true, false, cond}
 use mathlib.Core.List.{List, _++_}
-use Prim.Native.Nat.{ℕ, _/_, _≤_, _<_}
+use Prim.Native.Nat.{ℕ, _≤_, _<_}
 use native.Mathlib.Omega.{arith}
 use lib.Dec.{ltb→lt}
 use lib.ListN.{length}
@@ -15,7 +15,7 @@ use Rattle.paper.specs.declared.Start.{Start}
 use Rattle.paper.specs.declared.Start.the-variants.{Unnamed, Cube}
 use Rattle.paper.specs.declared.Sizes.{Sizes}
 use Rattle.paper.specs.Lattice.{Lattice, cubes, lowest, mayStart}
-use Rattle.paper.specs.Sheet.{Sheet, vertexRecord, recordLength, sheetOf}
+use Rattle.paper.specs.Sheet.{Sheet, vertexRecord, sheetOf}
 use Rattle.paper.specs.Within.{Sized}
 use Rattle.paper.specs.Tests.{Test, verdict, judge}
 use Rattle.paper.specs.Room.{Work, work, Lengths, lengths, needed, neededSlots, vertexRoom, triangleRoom, roomTests, clears, frontAfter, clean, workAfter}
@@ -144,14 +144,15 @@ module _ (L : Lattice) (s : Start) (l : Lent) where
       (numbered-both first-tests last-tests (sample-numbered L s (lengths (l .work))) (room-numbered f g v t))
       (sym built-number ∙ e)) .1)
 
--- an answer knows only how long output is
-pub built-same : (L : Lattice) (s : Start) (l m : Lent) → length (l .vertices) ≡ length (m .vertices) → length (l .triangles) ≡ length (m .triangles)
-    → lengths (l .work) ≡ lengths (m .work) → (built L s l ≡ built L s m) × (buildNumber L s l ≡ buildNumber L s m)
+-- an answer knows only how much room there is
+pub built-same : (L : Lattice) (s : Start) (l m : Lent) → vertexRoom (l .vertices) ≡ vertexRoom (m .vertices)
+    → triangleRoom (l .triangles) ≡ triangleRoom (m .triangles) → lengths (l .work) ≡ lengths (m .work)
+    → (built L s l ≡ built L s m) × (buildNumber L s l ≡ buildNumber L s m)
 unfolding built buildNumber
 built-same L s l m v t w =
     let S = sheetOf L (startOf L s) in
     let n : 𝕀 → ℕ =
-    λ i. judge (sampleTests L s (w i) ++ roomTests (length (S .edges)) (length (S .triangles)) (v i / recordLength) (t i / 3)) .number in
+    λ i. judge (sampleTests L s (w i) ++ roomTests (length (S .edges)) (length (S .triangles)) (v i) (t i)) .number in
     ((λ i. cond (counts (n i)) (counted (n i) S) (uncounted (n i))), (λ i. n i))
 
 -- ── work room ──

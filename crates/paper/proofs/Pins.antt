@@ -42,10 +42,11 @@ table =
     ∷ row-of (builds 9 9 (lat 64 64 64 []) Unnamed) (2 ∷ 0 ∷ 0 ∷ 0 ∷ [])
     ∷ row-of (builds 9 9 (lat 2 2 2 (replicate 7 a)) Unnamed) (2 ∷ 0 ∷ 0 ∷ 0 ∷ [])
     ∷ row-of (builds 9 9 (lat 2 2 2 (replicate 9 a)) Unnamed) (2 ∷ 0 ∷ 0 ∷ 0 ∷ [])
-    -- what is left in the lent slices, and 3 before 4
+    -- what is left in the lent slices, 2 before 3 and 3 before 4
     ∷ row-of (leaves first-air Unnamed (used 13 4 2 2 57)) (0 ∷ 0 ∷ 49152 ∷ 0 ∷ 0 ∷ 1 ∷ 0 ∷ 49152 ∷ 0 ∷ 2 ∷ 0 ∷ 0 ∷ 49152 ∷ 9 ∷ 1 ∷ 2 ∷ 0 ∷ 8 ∷ 0 ∷ 5 ∷ 0 ∷ 6 ∷ replicate 56 0 ++ 7 ∷ [])
     ∷ row-of (leaves first-air Unnamed (used 11 4 2 2 57)) (6 ∷ replicate 11 9 ++ replicate 4 8 ++ 0 ∷ 5 ∷ 0 ∷ 6 ∷ replicate 56 0 ++ 7 ∷ [])
     ∷ row-of (leaves first-air Unnamed (used 12 2 2 2 57)) (7 ∷ replicate 12 9 ++ replicate 2 8 ++ 0 ∷ 5 ∷ 0 ∷ 6 ∷ replicate 56 0 ++ 7 ∷ [])
+    ∷ row-of (leaves (lat 2 2 2 (replicate 7 a)) Unnamed (used 12 3 0 0 0)) (2 ∷ numbers (used 12 3 0 0 0))
     ∷ row-of (leaves first-air (at 1 0 0) (used 12 3 0 1 56)) (3 ∷ numbers (used 12 3 0 1 56))
     ∷ row-of (leaves first-air (at 1 0 0) (used 12 3 1 0 56)) (3 ∷ numbers (used 12 3 1 0 56))
     ∷ row-of (leaves first-air (at 1 0 0) (used 12 3 1 1 55)) (3 ∷ numbers (used 12 3 1 1 55))
