@@ -1,4 +1,4 @@
-// The library for programs in other languages: the four entry points under plain names, a start as a flag and a place.
+// The library for programs in other languages: the entry points under plain names, a start as a flag and a place.
 use paper::Built;
 use paper::Got;
 use paper::Place;
@@ -6,12 +6,14 @@ use paper::Sizes;
 use paper::Start;
 use paper::Verdict;
 use paper::Wrote;
+use stl::Loaded;
 ghost use mathlib.Core.Path.{_≡_};
 ghost use Rattle.paper.specs.Lattice.{lattice};
 ghost use Rattle.paper.specs.Room.{work};
 ghost use Rattle.paper.specs.Build.{lent, Builds};
 ghost use Rattle.paper.specs.File.{Writes, Reads};
 ghost use Rattle.paper.specs.Check.{Checks};
+ghost use Rattle.stl.specs.Stl.{StlWrites, StlReads};
 ghost use Rattle.cabi.specs.Named.{startIf};
 
 // The start that a flag and a place name.
@@ -93,4 +95,24 @@ pub extern "C" fn malxuqeed_check(
 {
     let at = start_if(named, start);
     checker::check(samples, sizes, at, bytes, words, waiting, slots)
+}
+
+#[no_mangle]
+pub extern "C" fn malxuqeed_stl_write(
+    nv: usize,
+    nt: usize,
+    vertices: &[i32],
+    triangles: &[u32],
+    bytes: &mut [u8],
+) -> Wrote
+    ensures { λ r. ⌜ StlWrites nv nt (now (vertices .entry)) (now (triangles .entry)) (now (bytes .entry)) r (now (bytes .exit)) ⌝ }
+{
+    stl::write(nv, nt, vertices, triangles, bytes)
+}
+
+#[no_mangle]
+pub extern "C" fn malxuqeed_stl_read(bytes: &[u8], corners: &mut [i32]) -> Loaded
+    ensures { λ r. ⌜ StlReads (now (bytes .entry)) (now (corners .entry)) r (now (corners .exit)) ⌝ }
+{
+    stl::read(bytes, corners)
 }

@@ -4,8 +4,8 @@ use mathlib.Core.List.{List, [], _∷_}
 use Prim.Native.Nat.{ℕ, zero, suc, _+_, _*_, _/_, _%_, _<_, _≤_, _^_}
 use native.Mathlib.Nat.{div-lt-iff-lt-mul, pow-suc}
 use native.Mathlib.Omega.{arith}
-use lib.ListN.{length, getD, take, drop, length-drop}
-use lib.Seq.{take-nil, length-take-le}
+use lib.ListN.{length, getD, take, drop, length-drop, take-append-drop}
+use lib.Seq.{take-nil, length-take-le, take-append-le, drop-append-le, drop-drop}
 use Rattle.lists.specs.Bytes.{le, unle, field}
 use Rattle.codec.specs.Words.{Bytes}
 
@@ -22,6 +22,16 @@ field-more k bs at next e = rw e (field-suc k bs at)
 pub field-none : (bs : List ℕ) (at : ℕ) → field 0 bs at ≡ 0
 unfolding field
 field-none bs at = refl
+
+-- a field within a part of the bytes
+pub field-part : (k w : ℕ) (bs : List ℕ) (at j : ℕ) → at + w ≤ length bs → j + k ≤ w → field k bs (at + j) ≡ field k (take w (drop at bs)) j
+unfolding field
+field-part k w bs at j h l =
+    let p = drop at bs in
+    let n : length (take w p) ≡ w = length-take-le w p (omega (arith, length-drop at bs)) in
+    ap (λ (l : List ℕ). unle (take k l))
+    (sym (drop-drop j at bs) ∙ (ap (drop j) (sym (take-append-drop w p)) ∙ drop-append-le j (take w p) (drop w p) (omega arith)))
+    ∙ ap unle (take-append-le k (drop j (take w p)) (drop w p) (omega (arith, length-drop j (take w p))))
 
 -- the bytes of a number give it back
 pub unle-le : (k n : ℕ) → n < 256 ^ k → unle (le k n) ≡ n

@@ -21,6 +21,12 @@ module _ {A : Type 0} where
       let e : i + suc (length a) ≡ suc i + length a = omega arith in
       ap (λ (j : ℕ). sets (sets (set l i x) (suc i) a) j b) e ∙ sets-join (set l i x) a b (suc i)
 
+  -- one list stored after another
+  pub sets-next : (l : List A) {l₁ l₂ : List A} (at to : ℕ) (a b : List A) → at + length a ≡ to → l₁ ≡ sets l at a → l₂ ≡ sets l₁ to b
+      → l₂ ≡ sets l at (a ++ b)
+  sets-next l at to a b n e f =
+      f ∙ (ap (λ (m : List A). sets m to b) e ∙ (ap (λ (k : ℕ). sets (sets l at a) k b) (sym n) ∙ sets-join l a b at))
+
   pub sets-front : (l a : List A) → length a ≤ length l → sets l 0 a ≡ over a l
   sets-front l a h = sets-eq a l 0 (omega arith) ∙ ap (λ (n : ℕ). a ++ drop n l) (zero-add (length a))
 

@@ -87,13 +87,16 @@ indexTest nv nt ts = testAt 15 (firstBad nv nt ts) (eqb (firstBad nv nt ts) nt)
 unfoldable pub limits : ℕ → ℕ → Bool
 limits nv nt = leb nv 2000000 && leb nt 4000000
 
--- "Writing: 1, 9, 15, 8."; 9: "a count given to the writer exceeds its slice's room, or V's or T's limit";
--- 8: "the lent bytes are too few for the file", room being their number
+-- 9: "a count given to the writer exceeds its slice's room, or V's or T's limit"
+abbrev pub countTest : ℕ → ℕ → List ℤ → List ℕ → Test
+countTest nv nt vs ts = test 9 (leb nv (vertexRoom vs) && leb nt (triangleRoom ts) && limits nv nt)
+
+-- "Writing: 1, 9, 15, 8."; 8: "the lent bytes are too few for the file", room being their number
 unfoldable pub writeVerdict : Sizes → ℕ → ℕ → List ℤ → List ℕ → ℕ → Verdict
 writeVerdict z nv nt vs ts room =
     judge
     (test 1 (axes z)
-    ∷ test 9 (leb nv (vertexRoom vs) && leb nt (triangleRoom ts) && limits nv nt)
+    ∷ countTest nv nt vs ts
     ∷ indexTest nv nt ts
     ∷ test 8 (leb (fileLength nv nt) room)
     ∷ [])

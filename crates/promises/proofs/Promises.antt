@@ -3,10 +3,12 @@
 -- contracts; each body is the theorem. What has to be believed are the definitions that the statements name. Assumes nothing.
 use mathlib.Core.Path.{_≡_}
 use mathlib.Core.List.{List}
-use Prim.Native.Nat.{ℕ, _*_, _≤_}
+use mathlib.Core.Bool.{true}
+use Prim.Native.Nat.{ℕ, _+_, _*_, _<_, _≤_}
 use lib.IntN.{ℤ}
-use lib.ListN.{length, take}
-use Rattle.lists.specs.Lists.{over}
+use lib.ListN.{length, getD, take}
+use lib.Ieee.{binary32, ofBits, toBits}
+use Rattle.lists.specs.Lists.{range, each, over}
 use Rattle.paper.specs.declared.Sizes.{Sizes}
 use Rattle.paper.specs.declared.Start.{Start}
 use Rattle.paper.specs.declared.Built.{Built}
@@ -24,6 +26,11 @@ use Rattle.codec.specs.Words.{Words, Bytes}
 use Rattle.sheetfile.specs.Trips.{Returned}
 use Rattle.acceptance.specs.Holding.{Acceptable, Exactly, EachOnce}
 use Rattle.pairing.specs.Pairing.{Demand3, fileEdges, fileCorners}
+use Rattle.facets.specs.Steps.{floatOf, isImage}
+use Rattle.stl.specs.declared.Loaded.{Loaded}
+use Rattle.stl.specs.Stl.{nineOf, StlWrites, stlFacet, StlReads}
+use Rattle.stl.proofs.Promises.{Exactly as CornerOf, Returned as StlReturned}
+use Rattle.stl.proofs.Promises as stl
 use Rattle.paper.proofs.Agreement as agree
 use Rattle.sheetfile.proofs.RoundTrips as trips
 use Rattle.acceptance.proofs.Exact as exact
@@ -100,3 +107,33 @@ pub built-accepted : {L : Lattice} {s : Start} {before : Lent} {r : Built} {afte
     → Writes (L .size) (r .vertices) (r .triangles) (after .vertices) (after .triangles) bytes w bytes′ → w .number ≡ 0
     → (n : Lengths) → judge (sampleTests L s n) .number ≡ 0 → checked L s (take (w .bytes) bytes′) n .number ≡ 0
 built-accepted = made.built-accepted
+
+-- ── document 02 (i): binary STL; the contracts are `StlWrites` and `StlReads` (stl/specs) ──
+
+-- the answer and every lent slice are settled
+pub one-stl-write : {nv nt : ℕ} {vs : List ℤ} {ts before : List ℕ} {r r′ : Wrote} {after after′ : List ℕ}
+    → StlWrites nv nt vs ts before r after → StlWrites nv nt vs ts before r′ after′ → (r ≡ r′) × (after ≡ after′)
+one-stl-write = stl.stl-writes-agree
+
+pub one-stl-read : {bs : List ℕ} {before after after′ : List ℤ} {r r′ : Loaded}
+    → StlReads bs before r after → StlReads bs before r′ after′ → (r ≡ r′) × (after ≡ after′)
+one-stl-read = stl.stl-reads-agree
+
+module _ {nv nt : ℕ} {vs : List ℤ} {ts before after : List ℕ} {r : Wrote} (w : StlWrites nv nt vs ts before r after) (e : r .number ≡ 0) where
+  -- "nothing may be rounded": each float of each facet is exactly its coordinate / 65,536
+  pub stl-exact : (i : ℕ) → i < nt
+      → let f = stlFacet (take (r .bytes) after) i in
+      CornerOf (f .a) vs (getD ts (3 * i) 0) × CornerOf (f .b) vs (getD ts (3 * i + 1) 0) × CornerOf (f .c) vs (getD ts (3 * i + 2) 0)
+  stl-exact = stl.written-exact w e
+
+  -- "A reader takes them back to the same integers in the sheet's corner order"
+  pub stl-written-read : {us us′ : List ℤ} {g : Loaded} → StlReads (take (r .bytes) after) us g us′ → 9 * nt ≤ length us
+      → StlReturned nt (each (nineOf vs ts) (range 0 nt)) us g us′
+  stl-written-read = stl.read-of-written w e
+
+-- "a float that no such coordinate gives (minus zero too)": 32 bits are taken exactly where they are those of a coordinate's float
+pub stl-taken : (b : ℕ) → b < 4294967296 → isImage (ofBits binary32 b) ≡ true → (n : ℕ) × (n ≤ 4128768) × (b ≡ toBits binary32 (floatOf n))
+stl-taken = stl.taken-bits
+
+pub stl-takes : (b n : ℕ) → n ≤ 4128768 → b ≡ toBits binary32 (floatOf n) → isImage (ofBits binary32 b) ≡ true
+stl-takes = stl.bits-taken

@@ -15,23 +15,18 @@ use Rattle.paper.specs.declared.Sizes.{Sizes}
 use Rattle.paper.specs.File.{contentOf, fileBytes, trailerBytes, limits}
 use Rattle.codec.specs.Words.{wordBytes}
 use Rattle.lists.proofs.Every.{each-length}
-use Rattle.lists.proofs.Stores.{sets-join, sets-front}
+use Rattle.lists.proofs.Stores.{sets-next, sets-front}
 use Rattle.sheetfile.specs.Taken.{countBytes, sizeBytes, Writable}
 use Rattle.paper.proofs.Judged.{both}
 use Rattle.layout.proofs.Trailer.{in-limits}
-
--- one list stored after another
-pub next : (l : List ℕ) {l₁ l₂ : List ℕ} (at to : ℕ) (a b : List ℕ) → at + length a ≡ to → l₁ ≡ sets l at a → l₂ ≡ sets l₁ to b → l₂ ≡ sets l at (a ++ b)
-next l at to a b n e f =
-    f ∙ (ap (λ (m : List ℕ). sets m to b) e ∙ (ap (λ (k : ℕ). sets (sets l at a) k b) (sym n) ∙ sets-join l a b at))
 
 -- four of one width
 pub four : (l : List ℕ) {l₁ l₂ l₃ l₄ : List ℕ} (w at : ℕ) (a b c d : List ℕ) → length a ≡ w → length b ≡ w → length c ≡ w
     → l₁ ≡ sets l at a → l₂ ≡ sets l₁ (at + w) b → l₃ ≡ sets l₂ (at + 2 * w) c → l₄ ≡ sets l₃ (at + 3 * w) d
     → l₄ ≡ sets l at (a ++ b ++ c ++ d)
 four l w at a b c d la lb lc e₁ e₂ e₃ e₄ =
-    next l at (at + 3 * w) (a ++ b ++ c) d (omega (arith, length-append (a ++ b) c, length-append a b))
-    (next l at (at + 2 * w) (a ++ b) c (omega (arith, length-append a b)) (next l at (at + w) a b (omega arith) e₁ e₂) e₃) e₄
+    sets-next l at (at + 3 * w) (a ++ b ++ c) d (omega (arith, length-append (a ++ b) c, length-append a b))
+    (sets-next l at (at + 2 * w) (a ++ b) c (omega (arith, length-append a b)) (sets-next l at (at + w) a b (omega arith) e₁ e₂) e₃) e₄
 
 -- test 9
 pub counted : (nv nt vertices triangles : ℕ) → (leb nv (vertices / 4) && leb nt (triangles / 3) && limits nv nt) ≡ true
@@ -89,8 +84,8 @@ module _ (z : Sizes) (nv nt : ℕ) (vs : List ℤ) (ts : List ℕ) (room : Writa
   parts-stored l x y c s ex ey ec e₁ e₂ e₃ e₄ =
       let n = length-append x y in
       let m = length-append (x ++ y) c in
-      next l 0 (16 * nv + 12 * nt + 16) (x ++ y ++ c) s (omega arith)
-      (next l 0 (16 * nv + 12 * nt) (x ++ y) c (omega arith) (next l 0 (16 * nv) x y (omega arith) e₁ e₂) e₃) e₄
+      sets-next l 0 (16 * nv + 12 * nt + 16) (x ++ y ++ c) s (omega arith)
+      (sets-next l 0 (16 * nv + 12 * nt) (x ++ y) c (omega arith) (sets-next l 0 (16 * nv) x y (omega arith) e₁ e₂) e₃) e₄
       ∙ ap (sets l 0) (append-assoc (x ++ y) c s)
 
   pub file-stored : (l : List ℕ) {l₁ l₂ l₃ l₄ : List ℕ} → 16 * nv + 12 * nt + 24 ≤ length l

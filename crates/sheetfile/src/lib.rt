@@ -20,7 +20,7 @@ ghost use Rattle.sheetfile.specs.Taken.{countBytes, sizeBytes, Writable}
 // ── writing ──
 
 // The first triangle of nt with an index that is not below nv, or nt.
-fn first_bad(nv: usize, nt: usize, triangles: &[u32]) -> usize
+pub fn first_bad(nv: usize, nt: usize, triangles: &[u32]) -> usize
     requires { ⌜ 3 * nt ≤ length (now triangles) ⌝ }
     ensures { λ r. ⌜ r ≡ firstBad nv nt (now (triangles .entry)) ⌝ }
 {
@@ -34,7 +34,7 @@ fn first_bad(nv: usize, nt: usize, triangles: &[u32]) -> usize
 }
 
 // 9: "a count given to the writer exceeds its slice's room, or V's or T's limit"; rv and rt are the rooms.
-fn counts_fit(nv: usize, nt: usize, rv: usize, rt: usize) -> bool
+pub fn counts_fit(nv: usize, nt: usize, rv: usize, rt: usize) -> bool
     ensures { λ r. ⌜ r ≡ (leb nv rv && leb nt rt && limits nv nt) ⌝ }
 {
     if rv < nv {

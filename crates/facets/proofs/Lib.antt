@@ -1,0 +1,4 @@
+-- What the proofs cite.
+pub mod Floats
+pub mod Images
+pub mod Facets

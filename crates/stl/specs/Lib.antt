@@ -1,0 +1,3 @@
+-- What the contracts cite. Read `Stl`, over `Steps` and `Facets` of crate `facets`.
+pub mod Stl
+pub mod Within
