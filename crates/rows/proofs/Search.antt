@@ -1,0 +1,93 @@
+-- The search for the lowest crossed cube, row by row. Assumes nothing.
+use mathlib.Core.Path.{_≡_, refl, sym, ap, _∙_}
+use mathlib.Core.Bool.{Bool, true, false, cond}
+use mathlib.Core.List.{List}
+use Prim.Native.Nat.{ℕ, _+_, _-_, _*_, _≤_, _<_}
+use native.Mathlib.Omega.{arith}
+use native.Mathlib.Decide.{decLt}
+use lib.Dec.{eqb, ltb}
+use borrow.Author.Tests.{lt-ltb, le-ltb, eqb-true}
+use Rattle.lists.specs.Lists.{range, any}
+use Rattle.lists.proofs.Runs.{any-first}
+use Rattle.paper.specs.declared.Sizes.{Sizes}
+use Rattle.paper.specs.declared.Place.{Place}
+use Rattle.paper.specs.Lattice.{Lattice, place, crossed, cubes, cubeNo, cubeAt, lowest}
+use Rattle.paper.specs.Within.{Sized, CubeIn}
+use Rattle.paper.proofs.Numbers.{cube-place, cube-inside, cube-back, cube-lt}
+use Rattle.sides.proofs.Search.{none, found}
+use Rattle.bits.specs.Words.{bit, word}
+use Rattle.bits.proofs.Bits.{bit-of-0, bit-word}
+use Rattle.rows.specs.Rows.{HasRows, rowNo, quadAt, crossedIn, crossedBy, lookedAt}
+use Rattle.rows.proofs.Cubes.{crossed-is}
+
+-- where none of the bits looked at is set, none is
+pub none-looked : (m n : ℕ) → ((i : ℕ) → i < lookedAt m n → bit m i ≡ false) → (i : ℕ) → i < n → bit m i ≡ false
+unfolding lookedAt
+none-looked m n h i l = go (eqb m 0) refl
+  where
+    go : (b : Bool) → eqb m 0 ≡ b → bit m i ≡ false
+    go true e = ap (λ (m : ℕ). bit m i) (eqb-true m 0 e) ∙ bit-of-0 i
+    go false e = let q : n ≡ cond (eqb m 0) 0 n = sym (ap (λ (b : Bool). cond b 0 n) e) in h i (omega arith)
+
+pub looked-le : (m n : ℕ) → lookedAt m n ≤ n
+unfolding lookedAt
+looked-le m n = go (eqb m 0)
+  where
+    go : (b : Bool) → cond b 0 n ≤ n
+    go true = omega arith
+    go false = omega arith
+
+module _ (z : Sizes) (rows : List ℕ) where
+  -- no cube below k is crossed
+  abbrev pub Clear : ℕ → Type 0
+  Clear k = (j : ℕ) → j < k → crossedBy z rows (cubeAt z j) ≡ false
+
+  -- the bits of a row of cubes
+  pub row-bit : (m y w x : ℕ) → m ≡ word (crossedIn (quadAt rows (z .ny) (y + z .ny * w))) (z .nx - 1) → x < z .nx - 1 → bit m x
+      ≡ crossedBy z rows (place x y w)
+  unfolding crossedBy
+  row-bit m y w x e l = ap (λ (m : ℕ). bit m x) e ∙ bit-word (crossedIn (quadAt rows (z .ny) (y + z .ny * w))) (z .nx - 1) x l
+
+  -- with the first n cubes of the row at y and w
+  pub clear-row : (m y w n : ℕ) → m ≡ word (crossedIn (quadAt rows (z .ny) (y + z .ny * w))) (z .nx - 1) → y < z .ny - 1 → n ≤ z .nx - 1
+      → Clear ((z .nx - 1) * (y + (z .ny - 1) * w)) → ((x : ℕ) → x < n → bit m x ≡ false) → Clear (n + (z .nx - 1) * (y + (z .ny - 1) * w))
+  unfolding cubeNo
+  clear-row m y w n e hy hn c h j l = go (decLt j ((z .nx - 1) * (y + (z .ny - 1) * w)))
+    where
+      go : Dec (j < (z .nx - 1) * (y + (z .ny - 1) * w)) → crossedBy z rows (cubeAt z j) ≡ false
+      go (yes k) = c j k
+      go (no k) =
+          let x = j - (z .nx - 1) * (y + (z .ny - 1) * w) in
+          let q : j ≡ x + (z .nx - 1) * (y + (z .ny - 1) * w) = omega arith in
+          let hx : x < n = omega arith in
+          ap (crossedBy z rows) (ap (cubeAt z) q ∙ cube-place z (place x y w) (omega arith) hy)
+          ∙ (sym (row-bit m y w x e (omega arith)) ∙ h x hx)
+
+-- a loop of the search has come to i of its end: nothing is found, and no cube below k is crossed
+pub record Seeking (z : Sizes) (rows : List ℕ) (end found i k : ℕ) : Type 0 where
+  pub upto : i ≤ end
+  pub none : found ≡ cubes z
+  pub clear : Clear z rows k
+
+-- the loop over the first n bits of a row has come to x: nothing is found, and no bit below x is set
+pub record Looking (z : Sizes) (m n found x : ℕ) : Type 0 where
+  pub upto : x ≤ n
+  pub none : found ≡ cubes z
+  pub clear : (i : ℕ) → i < x → bit m i ≡ false
+
+-- ── what that says of the lattice ──
+
+module _ (L : Lattice) (rows : List ℕ) (s : Sized (L .size)) (h : HasRows L rows) where
+  crossed-no : (j : ℕ) → j < cubes (L .size) → crossed L j ≡ crossedBy (L .size) rows (cubeAt (L .size) j)
+  crossed-no j l =
+      sym (crossed-is L rows h (cubeAt (L .size) j) (cube-inside (L .size) s j l) ∙ ap (crossed L) (cube-back (L .size) s j l))
+
+  pub none-lowest : Clear (L .size) rows (cubes (L .size)) → cubes (L .size) ≡ lowest (L .size) (crossed L)
+  none-lowest c = none L (cubes (L .size)) refl (λ j l. crossed-no j l ∙ c j l)
+
+  pub found-lowest : (p : Place) → CubeIn (L .size) p → Clear (L .size) rows (cubeNo (L .size) p) → crossedBy (L .size) rows p ≡ true
+      → cubeNo (L .size) p ≡ lowest (L .size) (crossed L)
+  found-lowest p i c t =
+      let n = cubeNo (L .size) p in
+      let l : n < cubes (L .size) = cube-lt (L .size) p i in
+      found L n l (λ j g. crossed-no j (omega arith) ∙ c j g) (sym (crossed-is L rows h p i) ∙ t)
