@@ -12,7 +12,8 @@ use Rattle.paper.specs.Sheet.{weight}
 use Rattle.bits.specs.Words.{bit, word}
 use Rattle.bits.proofs.Bits.{side-le, word-ext, word-is}
 
-ones-from : (f : ℕ → Bool) (i n : ℕ) → ones (word (λ x. f (i + x)) n) ≡ count f (range i n)
+-- of the tests from i on
+pub ones-from : (f : ℕ → Bool) (i n : ℕ) → ones (word (λ x. f (i + x)) n) ≡ count f (range i n)
 unfolding word ones
 ones-from f i zero = refl
 ones-from f i (suc n) =

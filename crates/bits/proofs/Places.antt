@@ -55,7 +55,6 @@ not-on b x h g e = subst T (sym (bit-not b 64 x h g ∙ ap not e)) tt
 
 -- a place of a is in b or left
 pub less-cases : (a b x : ℕ) → b < 2 ^ 64 → x < 64 → On a x → On b x ⊎ On (less a b) x
-unfolding less
 less-cases a b x h g p = go (bit b x) refl
   where
     go : (t : Bool) → bit b x ≡ t → On b x ⊎ On (bitAnd a (2 ^ 64 - 1 - b)) x
@@ -63,21 +62,11 @@ less-cases a b x h g p = go (bit b x) refl
     go false e = inr (on-and a (2 ^ 64 - 1 - b) x p (not-on b x h g e))
 
 pub less-on : (a b x : ℕ) → On (less a b) x → On a x
-unfolding less
 less-on a b x p = and-on a (2 ^ 64 - 1 - b) x p .0
 
 -- what is left of a has no place of b
 pub less-none : (a b x : ℕ) → b < 2 ^ 64 → x < 64 → On b x → On (less a b) x → ⊥
-unfolding less
 less-none a b x h g p q = T-not (bit b x) (subst T (bit-not b 64 x h g) (and-on a (2 ^ 64 - 1 - b) x q .1)) p
-
-pub less-lt : (a b n : ℕ) → a < n → less a b < n
-unfolding less
-less-lt a b n h = omega (arith, and-le-l a (2 ^ 64 - 1 - b))
-
-pub less-of-0 : (b : ℕ) → less 0 b ≡ 0
-unfolding less
-less-of-0 b = omega (arith, and-le-l 0 (2 ^ 64 - 1 - b))
 
 -- ── how many ──
 

@@ -29,7 +29,7 @@ lowered w (suc d) zero = false
 lowered w (suc d) (suc x) = bit w x
 
 -- `a & !b` of words of 64 bits: the places of a that are none of b's
-unfoldable pub less : ℕ → ℕ → ℕ
+abbrev pub less : ℕ → ℕ → ℕ
 less a b = bitAnd a (2 ^ 64 - 1 - b)
 
 -- the sum of f x over each x below n

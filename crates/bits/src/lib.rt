@@ -2,7 +2,7 @@
 ghost use mathlib.Core.Path.{_≡_};
 ghost use Prim.Native.Nat.{_-_, _^_, _≤_, _<_};
 ghost use lib.Count.{ones as onesOf};
-ghost use Rattle.bits.specs.Words.{bit, less};
+ghost use Rattle.bits.specs.Words.{bit};
 
 // Whether place x is in a word.
 pub fn has_bit(w: u64, x: usize) -> bool
@@ -18,13 +18,6 @@ pub fn low_bits(n: usize) -> u64
     ensures { λ r. ⌜ r ≡ 2 ^ n - 1 ⌝ }
 {
     (1 << n) - 1
-}
-
-// The places of a that are none of b's.
-pub fn without(a: u64, b: u64) -> u64
-    ensures { λ r. ⌜ r ≡ less a b ⌝ }
-{
-    a & !b
 }
 
 // How many places a word has.

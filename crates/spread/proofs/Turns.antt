@@ -1,0 +1,135 @@
+-- The turns of a flood along the gates and doors of words. Assumes nothing.
+use mathlib.Core.Path.{_≡_, ap, subst, _∙_}
+use mathlib.Core.List.{List}
+use Prim.Native.Nat.{ℕ, suc, _+_, _-_, _*_, _%_, _^_, _≤_, _<_}
+use native.Mathlib.Omega.{arith}
+use lib.Count.{ones}
+use lib.Bits.{bitOr}
+use lib.ListN.{length, getD, set}
+use Rattle.lists.specs.Reach.{here}
+use Rattle.paper.specs.declared.Sizes.{Sizes}
+use Rattle.paper.specs.Within.{Sized}
+use Rattle.rows.specs.declared.Quad.{Quad}
+use Rattle.bits.specs.Words.{less}
+use Rattle.bits.proofs.Bits.{shifted-one}
+use Rattle.rows.specs.Rows.{quadAt}
+use Rattle.spread.specs.Along.{Filled}
+use Rattle.spread.specs.Plan.{Plan}
+use Rattle.spread.specs.Flow.{Flow, flow, wait, sends, Roomy}
+use Rattle.spread.specs.Ways.{gateBy, gateAt, doorBy, besideBy, doorAt, besideAt, words, rowsOf, isRow, RowIn, planOf}
+use Rattle.spread.specs.Flooded.{Beyond, Empty, cell, room, Flooded}
+use Rattle.spread.proofs.Laws.{lit, blank-le, Kept, wait-kept}
+use Rattle.spread.proofs.Going.{Ground, Turn, turn-start, turn-row, turn-roomy, turn-count, turn-bound, turn-less, turn}
+use Rattle.spread.proofs.Finish.{Reached, ground, finished, emptied}
+use Rattle.spread.proofs.Ways.{row-lt, row-on, row-test, row-in, rows-count, into, words-le}
+
+module _ (z : Sizes) (rows : List ℕ) (q x : ℕ) where
+  abbrev P : Plan
+  P = planOf z rows
+
+  abbrev Reaches : ℕ → ℕ → Type 0
+  Reaches = Reached P q x
+
+  grounded : Ground P Reaches
+  grounded =
+      ground P q x (λ r h. row-lt z r (row-in z r h))
+      (λ r k h _. row-test z (besideAt z rows r k) (row-on z (quadAt rows (z .ny) r) r k (row-in z r h)))
+
+  -- the invariant of the loop
+  abbrev pub Flooding : List ℕ → List ℕ → List ℕ → List ℕ → Flow → ℕ → Type 0
+  Flooding = Turn P Reaches q x
+
+  module _ (sized : Sized z) (row : RowIn z q) (hx : x < 64) where
+    small : words z < 2 ^ 32
+    small = omega (arith, words-le z sized)
+
+    pub roomy-start : (due w : List ℕ) → Empty (words z) due → rowsOf z ≤ length w → Roomy (words z) (rowsOf z) (isRow z) (flow due w 0)
+    roomy-start due w e h = record {
+      due-fit = e .fit;
+      waiting-fit = h;
+      small = small;
+      room = omega
+          (arith, blank-le (isRow z) 0 (words z) due, rows-count z sized);
+    }
+
+    pub first-kept : (due w : List ℕ) (m : ℕ) (t : Flow) → Empty (words z) due → rowsOf z ≤ length w → t ≡ wait q m (flow due w 0)
+        → Kept (words z) (rowsOf z) (isRow z) 1 (flow due w 0) t
+    first-kept due w m t e h p = rw p (wait-kept (words z) (rowsOf z) (isRow z) q m (flow due w 0) (roomy-start due w e h)
+        (row-lt z q row) (row-test z q row))
+
+    pub flooding-start : (vis due w : List ℕ) (t : Flow) → Empty (words z) vis → Empty (words z) due → rowsOf z ≤ length w
+        → t ≡ wait q ((1 * 2 ^ x) % 2 ^ 64) (flow due w 0) → Flooding vis (t .due) (t .waiting) vis t 0
+    flooding-start vis due w t a b h p =
+        turn-start P Reaches grounded q x vis due w (row-test z q row) hx here (a .fit)
+        (roomy-start due w b h) (a .none) (b .none) t (p ∙ ap (λ (m : ℕ). wait q m (flow due w 0)) (shifted-one x hx))
+
+    -- one turn
+    module _ (vis₀ due₀ w₀ vis due w : List ℕ) (h i seen : ℕ) (e : h ≡ suc i) (u : Flooding vis₀ due₀ w₀ vis (flow due w h) seen) where
+      abbrev at : ℕ
+      at = getD w i 0
+
+      pub at-row : RowIn z at
+      at-row = row-in z at (turn-row P Reaches grounded q x vis₀ due₀ w₀ vis due w h i seen hx e u)
+
+      -- the four words around it, its gates, and what they lead to
+      module _ (four : Quad) (is : four ≡ quadAt rows (z .ny) at) (gates full : ℕ) (by : gates ≡ gateBy z four) (l : full < 2 ^ 64)
+          (F : Filled (getD due at 0) gates full) where
+        gate-is : gates ≡ gateAt z rows at
+        gate-is = by ∙ ap (gateBy z) is
+
+        F′ : Filled (getD due at 0) (gateAt z rows at) full
+        F′ = subst (λ (g : ℕ). Filled (getD due at 0) g full) gate-is F
+
+        abbrev new : ℕ
+        new = less full (getD vis at 0)
+
+        abbrev grown : List ℕ
+        grown = set vis at (bitOr (getD vis at 0) new)
+
+        abbrev popped : Flow
+        popped = flow (set due at 0) w i
+
+        pub at-roomy : Roomy (words z) (rowsOf z) (isRow z) popped
+        at-roomy =
+            turn-roomy P Reaches grounded q x vis₀ due₀ w₀ vis due w h i seen hx e u full l F′
+
+        pub seen-le : seen + ones new ≤ 262144
+        seen-le =
+            omega (
+              arith,
+              turn-count P Reaches grounded q x vis₀ due₀ w₀ vis due w h i seen hx e u full l F′,
+              turn-bound P Reaches grounded q x vis₀ due₀ w₀ vis due w h i seen hx e u full l F′,
+              words-le z sized,
+            )
+
+        module _ (t : Flow) (s : t ≡ sends grown (doorBy z four at) (besideBy z four at) new 4 popped) where
+          s′ : t ≡ sends grown (doorAt z rows at) (besideAt z rows at) new 4 popped
+          s′ = s ∙ ap (λ (f : Quad). sends grown (doorBy z f at) (besideBy z f at) new 4 popped) is
+
+          pub less-left : 5 * (64 * words z - lit (words z) grown) + t .height < 5 * (64 * words z - lit (words z) vis) + h
+          less-left =
+              turn-less P Reaches grounded q x vis₀ due₀ w₀ vis due w h i seen hx e u full l F′ t s′
+
+          pub flooding-more : (k : ℕ) → k ≡ ones new → Flooding vis₀ due₀ w₀ grown t (seen + k)
+          flooding-more k c =
+              rw c
+              (turn P Reaches grounded q x vis₀ due₀ w₀ vis due w h i seen hx e u full l F′ t s′)
+
+    -- the loop is left
+    module _ (vis₀ due₀ w₀ vis₁ w₁ vis : List ℕ) (s : Flow) (seen : ℕ) (e : s .height ≡ 0) (u : Flooding vis₁ due₀ w₁ vis s seen)
+        (b : Beyond (words z) vis₀ vis₁) (d : Beyond (rowsOf z) w₀ w₁) where
+      into-words : (r k : ℕ) → r < words z → k < 4 → besideAt z rows r k < words z
+      into-words r k h _ = into z (quadAt rows (z .ny) r) r k (omega (arith, sized .y-low)) h
+
+      pub flooding-done : Flooded P (cell q x) (room vis₀ w₀) (room vis (s .waiting)) seen
+      flooding-done =
+          finished P q x grounded hx (row-lt z q row) into-words vis₀ due₀ w₀ vis₁ w₁
+          vis s seen e u b d
+
+      pub due-done : Empty (words z) (s .due)
+      due-done = record {
+        fit = u .going .roomy .due-fit;
+        none =
+            emptied P q x grounded hx (row-lt z q row) into-words vis₀ due₀ w₀ vis₁ w₁
+            vis s seen e u b d;
+      }

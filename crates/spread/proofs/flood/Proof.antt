@@ -1,0 +1,260 @@
+-- Each turn takes a row off the list, fills it and spreads: the invariant is `Flooding`. What is not visited, five times, and what waits
+-- falls. Assumes nothing.
+use borrow.Author.Needs.{needs}
+use mathlib.Core.Path.{_≡_}
+use Prim.Native.Nat.{ℕ, suc, _+_, _*_, _<_, _-_, _^_}
+use native.Mathlib.Omega.{arith}
+use lib.ListN.{getD, set, length-set}
+use denote.Ref.{now}
+use Rattle.spread.specs.Flow.{flow, Roomy}
+use Rattle.spread.specs.Ways.{words, rowsOf, isRow, RowIn, planOf}
+use Rattle.spread.specs.Flooded.{Beyond, Empty, cell, room, Flooded}
+use Rattle.spread.proofs.Laws.{lit, beyond-refl, beyond-trans}
+use Rattle.spread.proofs.Ways.{row-lt, row-quad, row-le, rows-some, words-le}
+use Rattle.spread.proofs.Turns.{Flooding, first-kept, flooding-start, at-row, at-roomy, seen-le, less-left, flooding-more, flooding-done, due-done}
+use Rattle.spread.proofs.flood.Statement.{statement}
+use Rattle.spread.proofs.flood.Tie as tie
+
+abbrev Inv-loop : tie.InvT-loop
+Inv-loop rows z row x vis₀ due₀ waiting₀ h₀ seen₀ vis due waiting h seen = Flooding z rows row x vis₀ due₀ waiting₀ vis
+    (flow due waiting h) seen
+
+abbrev μ-loop : tie.MeasureT-loop
+μ-loop rows z row x vis₀ due₀ waiting₀ h₀ seen₀ vis due waiting h seen = 5 * (64 * words z - lit (words z) vis) + h
+
+-- places: where the first row waits, and where the function begins
+abbrev waited : tie.At-loop Inv-loop μ-loop → tie.After-wait-row Inv-loop μ-loop
+waited c = c .before .before .before .before .before
+
+abbrev shifted : tie.After-wait-row Inv-loop μ-loop → tie.After-wait-row-arg Inv-loop μ-loop
+shifted c = c .before .before
+
+abbrev begun : tie.After-wait-row Inv-loop μ-loop → tie.Start Inv-loop μ-loop
+begun c = shifted c .before .before .before .before .before
+
+abbrev start : tie.At-loop Inv-loop μ-loop → tie.Start Inv-loop μ-loop
+start c = begun (waited c)
+
+-- one of the list waits
+some : (l : tie.In-loop Inv-loop μ-loop) → l .before .loop .h ≡ suc (l .before .loop .h - 1)
+some l = let t = l .loop-test .taken in omega arith
+
+-- the row that is taken off
+abbrev at : tie.In-loop Inv-loop μ-loop → ℕ
+at l = getD (l .before .loop .waiting) (l .before .loop .h - 1) 0
+
+popped : (l : tie.In-loop Inv-loop μ-loop) → RowIn (start (l .before) .args .z) (at l)
+popped l =
+    let s = start (l .before) in
+    at-row (s .args .z) (now (s .args .rows)) (s .args .row) (s .args .x) (s .pre .0 .0) (s .pre .0 .1) (s .pre .0 .2) _ _ _ _ _ _ _ _ _
+    (some l) (l .before .loop .inv)
+
+popped-lt : (l : tie.In-loop Inv-loop μ-loop) → let z = start (l .before) .args .z in (at l < words z) × (at l < 4097)
+popped-lt l =
+    let s = start (l .before) in
+    (row-lt (s .args .z) (at l) (popped l), omega (arith, row-le (s .args .z) (at l) (s .pre .0 .0) (popped l)))
+
+-- the row is filled
+abbrev inside : tie.After-filled Inv-loop μ-loop → tie.In-loop Inv-loop μ-loop
+inside c = c .before .before .before .before .before .before
+
+full-lt : (c : tie.After-filled Inv-loop μ-loop) → c .filled .result < 2 ^ 64
+full-lt c = omega (arith, c .filled .ok)
+
+roomy : (c : tie.After-filled Inv-loop μ-loop) → let l = inside c in
+    Roomy (words (start (l .before) .args .z)) (rowsOf (start (l .before) .args .z)) (isRow (start (l .before) .args .z))
+    (flow (set (l .before .loop .due) (at l) 0) (l .before .loop .waiting) (l .before .loop .h - 1))
+roomy c =
+    let l = inside c in
+    let s = start (l .before) in
+    at-roomy (s .args .z) (now (s .args .rows)) (s .args .row) (s .args .x) (s .pre .0 .0) (s .pre .0 .1) (s .pre .0 .2) _ _ _ _ _ _ _ _ _
+    (some l) (l .before .loop .inv) _ (c .before .before .before .before .quad-at .ensures) _ _ (c .before .gate .ensures) (full-lt c)
+    (c .filled .ensures)
+
+-- what is so where the loop is left
+left : (c : tie.After-loop Inv-loop μ-loop) → let s = start (c .before) in
+    let z = s .args .z in
+    let m = now (s .args .rows) in
+    let l = c .before .loop in
+    Flooded (planOf z m) (cell (s .args .row) (s .args .x)) (room (now (s .args .vis)) (now (s .args .waiting)))
+    (room (l .vis) (l .waiting)) (l .seen)
+    × Empty (words z) (l .due) × Beyond (words z) (now (s .args .due)) (l .due)
+left c =
+    let w = waited (c .before) in
+    let s = begun w in
+    let l = c .before .loop in
+    let z = s .args .z in
+    let k = first-kept (s .args .z) (now (s .args .rows)) (s .args .row) (s .args .x) (s .pre .0 .0) (s .pre .0 .1) (s .pre .0 .2)
+    (now (s .args .due)) (now (s .args .waiting)) _ _ (s .pre .1 .1) (s .pre .1 .2) (w .wait-row .ensures) in
+    let e : l .h ≡ 0 = omega arith in (
+      flooding-done (s .args .z) (now (s .args .rows)) (s .args .row) (s .args .x) (s .pre .0 .0) (s .pre .0 .1) (s .pre .0 .2)
+          (now (s .args .vis)) _ (now (s .args .waiting)) _ _ (l .vis) (flow (l .due) (l .waiting) (l .h)) (l .seen) e (l .inv)
+          (beyond-refl (words z) (now (s .args .vis))) (k .on-waiting),
+      due-done (s .args .z) (now (s .args .rows)) (s .args .row) (s .args .x) (s .pre .0 .0) (s .pre .0 .1) (s .pre .0 .2)
+          (now (s .args .vis)) _ (now (s .args .waiting)) _ _ (l .vis) (flow (l .due) (l .waiting) (l .h)) (l .seen) e (l .inv)
+          (beyond-refl (words z) (now (s .args .vis))) (k .on-waiting),
+      beyond-trans (k .on-due) (l .inv .on-due),
+    )
+
+shl-wait-row : tie.Need-shl-wait-row Inv-loop μ-loop
+shl-wait-row c = omega (arith, c .before .before .before .before .before .before .pre .0 .2)
+
+wait-row-requires : tie.Need-wait-row-requires Inv-loop μ-loop
+wait-row-requires c κs =
+    let s = c .before .before .before .before .before .before in
+    let l = row-lt (s .args .z) (s .args .row) (s .pre .0 .1) in (
+      omega (arith, s .pre .1 .1 .fit),
+      omega (arith, words-le (s .args .z) (s .pre .0 .0)),
+      λ _. omega
+          (arith, s .pre .1 .2, rows-some (s .args .z) (s .pre .0 .0)),
+    )
+
+loop-holds : tie.Need-loop-holds Inv-loop μ-loop
+loop-holds c =
+    let w = c .before .before .before .before in
+    let s = begun w in
+    flooding-start (s .args .z) (now (s .args .rows)) (s .args .row) (s .args .x) (s .pre .0 .0) (s .pre .0 .1) (s .pre .0 .2)
+    (now (s .args .vis)) (now (s .args .due)) (now (s .args .waiting)) _ (s .pre .1 .0) (s .pre .1 .1) (s .pre .1 .2)
+    (w .wait-row .ensures)
+
+sub-h : tie.Need-sub-h Inv-loop μ-loop
+sub-h c = search needs
+
+mul-r : tie.Need-mul-r Inv-loop μ-loop
+mul-r c = search needs
+
+slice-read-r : tie.Need-slice-read-r Inv-loop μ-loop
+slice-read-r c = omega (arith, c .before .before .loop .inv .going .roomy .room, c .before .before .loop .inv .going .roomy .waiting-fit)
+
+cast-r : tie.Need-cast-r Inv-loop μ-loop
+cast-r c = omega (arith, c .slice-known6 .given (c .before .before .loop .h - 1))
+
+quad-at-requires : tie.Need-quad-at-requires Inv-loop μ-loop
+quad-at-requires c κs = let s = start (c .before .before) in omega
+    (arith, row-quad (s .args .z) (at (c .before)) (popped (c .before)), s .pre .0 .3)
+
+mul-v : tie.Need-mul-v Inv-loop μ-loop
+mul-v c = omega (arith, popped-lt (c .before .before) .1)
+
+slice-read-v : tie.Need-slice-read-v Inv-loop μ-loop
+slice-read-v c = omega (arith, popped-lt (c .before .before .before) .0, c .before .before .before .before .loop .inv .going .vis-fit)
+
+mul-filled : tie.Need-mul-filled Inv-loop μ-loop
+mul-filled c = omega (arith, popped-lt (c .before .before .before) .1)
+
+slice-read-filled : tie.Need-slice-read-filled Inv-loop μ-loop
+slice-read-filled c =
+    let l = c .before .before .before .before in
+    omega (arith, popped-lt l .0, l .before .loop .inv .going .roomy .due-fit)
+
+gate-requires : tie.Need-gate-requires Inv-loop μ-loop
+gate-requires c κs = start (c .before .before .before .before .before) .pre .0 .0
+
+filled-requires : tie.Need-filled-requires Inv-loop μ-loop
+filled-requires c κs = search needs
+
+mul-due : tie.Need-mul-due Inv-loop μ-loop
+mul-due c = omega (arith, popped-lt (inside c) .1)
+
+slice-write-due : tie.Need-slice-write-due Inv-loop μ-loop
+slice-write-due c = omega (arith, popped-lt (inside c) .0, inside c .before .loop .inv .going .roomy .due-fit)
+
+mul-vis : tie.Need-mul-vis Inv-loop μ-loop
+mul-vis c = omega (arith, popped-lt (inside c) .1)
+
+slice-write-vis : tie.Need-slice-write-vis Inv-loop μ-loop
+slice-write-vis c = omega (arith, popped-lt (inside c) .0, inside c .before .loop .inv .going .vis-fit)
+
+ones-requires : tie.Need-ones-requires Inv-loop μ-loop
+ones-requires c κs = search needs
+
+add-seen : tie.Need-add-seen Inv-loop μ-loop
+add-seen c =
+    let f = c .before in
+    let l = inside f in
+    let s = start (l .before) in
+    omega (
+      arith,
+      c .ones .ensures .0,
+      seen-le (s .args .z) (now (s .args .rows)) (s .args .row) (s .args .x) (s .pre .0 .0) (s .pre .0 .1)
+          (s .pre .0 .2) _ _ _ _ _ _ _ _ _ (some l) (l .before .loop .inv) _ (f .before .before .before .before .quad-at .ensures) _ _
+          (f .before .gate .ensures) (full-lt f)
+          (f .filled .ensures),
+    )
+
+pass-doors-requires : tie.Need-pass-doors-requires Inv-loop μ-loop
+pass-doors-requires c κs =
+    let f = c .before .before .before .before in
+    let l = inside f in
+    let s = start (l .before) in
+    ((s .pre .0 .0, popped l, simp length-set (l .before .loop .inv .going .vis-fit)), roomy f)
+
+loop-less : tie.Need-loop-less Inv-loop μ-loop
+loop-less c =
+    let a = c .before .before .before .before in
+    let o = a .before .before .before .before in
+    let f = o .before in
+    let l = inside f in
+    let s = start (l .before) in
+    less-left (s .args .z) (now (s .args .rows)) (s .args .row) (s .args .x) (s .pre .0 .0) (s .pre .0 .1)
+    (s .pre .0 .2) _ _ _ _ _ _ _ _ _ (some l) (l .before .loop .inv) _ (f .before .before .before .before .quad-at .ensures) _ _
+    (f .before .gate .ensures) (full-lt f)
+    (f .filled .ensures) _ (a .pass-doors .ensures)
+
+loop-again : tie.Need-loop-again Inv-loop μ-loop
+loop-again c =
+    let a = c .before .before .before .before in
+    let o = a .before .before .before .before in
+    let f = o .before in
+    let l = inside f in
+    let s = start (l .before) in
+    flooding-more (s .args .z) (now (s .args .rows)) (s .args .row) (s .args .x) (s .pre .0 .0) (s .pre .0 .1)
+    (s .pre .0 .2) _ _ _ _ _ _ _ _ _ (some l) (l .before .loop .inv) _ (f .before .before .before .before .quad-at .ensures) _ _
+    (f .before .gate .ensures) (full-lt f)
+    (f .filled .ensures) _ (a .pass-doors .ensures) _ (o .ones .ensures .0)
+
+same-length : tie.Need-same-length Inv-loop μ-loop
+same-length c = left c .0 .on-vis .same-length
+
+same-length-2 : tie.Need-same-length-2 Inv-loop μ-loop
+same-length-2 c = left c .2 .same-length
+
+same-length-3 : tie.Need-same-length-3 Inv-loop μ-loop
+same-length-3 c = left c .0 .on-waiting .same-length
+
+returns : tie.Need-returns Inv-loop μ-loop
+returns c = (left c .0, left c .1)
+
+pub flood-spec : {M : Type 1} → statement M
+flood-spec =
+    tie.close
+    (tie.spec
+    Inv-loop
+    μ-loop
+    shl-wait-row
+    wait-row-requires
+    loop-holds
+    sub-h
+    mul-r
+    slice-read-r
+    cast-r
+    quad-at-requires
+    mul-v
+    slice-read-v
+    mul-filled
+    slice-read-filled
+    gate-requires
+    filled-requires
+    mul-due
+    slice-write-due
+    mul-vis
+    slice-write-vis
+    ones-requires
+    add-seen
+    pass-doors-requires
+    loop-less
+    loop-again
+    same-length
+    same-length-2
+    same-length-3
+    returns)

@@ -1,0 +1,72 @@
+-- The place of a cube is a row and a place of it; words that were never written are 0. Assumes nothing.
+use native.Mathlib.Omega.{arith}
+use denote.Ref.{now}
+use Rattle.paper.specs.Lattice.{lattice}
+use Rattle.paper.proofs.Visits.{in-visitable}
+use Rattle.spread.specs.Ways.{planOf}
+use Rattle.spread.proofs.Visiting.{visits}
+use Rattle.spread.proofs.Joining.{row-of, row-small, fresh, joined}
+use borrow.Author.Needs.{needs}
+use Rattle.spread.proofs.flood_from.Statement.{statement}
+use Rattle.spread.proofs.flood_from.Tie as tie
+
+-- places: where the function begins, and the flood
+abbrev entry : tie.After-struct-known3 → tie.Start
+entry c = c .before .before .before .before .before .before
+
+abbrev lending : tie.After-flood-arg2 → tie.Start
+lending c = entry (c .before .before .before)
+
+mul-flood : tie.Need-mul-flood
+mul-flood c =
+    let s = c .before .before .before .before .before in
+    omega (arith, row-small (s .args .z) (s .args .at) (s .pre .0 .0) (s .pre .0 .1))
+
+add-flood : tie.Need-add-flood
+add-flood c =
+    let s = entry c in
+    omega (arith, row-small (s .args .z) (s .args .at) (s .pre .0 .0) (s .pre .0 .1))
+
+slice-aggregate-flood : tie.Need-slice-aggregate-flood
+slice-aggregate-flood c = search needs
+
+flood-requires : tie.Need-flood-requires
+flood-requires c κs =
+    let s = lending c in
+    let z = s .args .z in
+    let p = s .pre .0 in
+    ((p .0, row-of z (s .args .at) (p .1), omega (arith, p .0 .x-high, p .1 .x), p .2), (s .pre .1 .0, fresh z (p .0), s .pre .1 .1))
+
+same-length : tie.Need-same-length
+same-length c = search needs
+
+same-length-2 : tie.Need-same-length-2
+same-length-2 c = search needs
+
+returns : tie.Need-returns
+returns c =
+    let f = c .before .before .before .before .before in
+    let b = lending (f .before) in
+    let z = b .args .z in
+    let ws = now (b .args .rows) in
+    let F = f .flood .ensures .0 in
+    record {
+      visits = λ s h.
+          let L = lattice z s in
+          visits L (b .pre .0 .0) (planOf z ws) (joined L (b .pre .0 .0) ws h) (b .args .at)
+          (in-visitable L (b .args .at) (b .pre .0 .1)) _ _ _ F;
+      on-vis = F .on-vis;
+      on-waiting = F .on-waiting;
+    }
+
+pub flood-from-spec : {M : Type 1} → statement M
+flood-from-spec =
+    tie.close
+    (tie.spec
+    mul-flood
+    add-flood
+    slice-aggregate-flood
+    flood-requires
+    same-length
+    same-length-2
+    returns)

@@ -1,0 +1,74 @@
+-- What a flood by rows leaves. Assumes nothing.
+use mathlib.Core.Path.{_≡_}
+use mathlib.Core.Bool.{_&&_}
+use mathlib.Core.List.{List, [], _++_}
+use Prim.Native.Nat.{ℕ, suc, _+_, _-_, _*_, _/_, _%_, _^_, _≤_, _<_}
+use lib.Dec.{ltb}
+use lib.IntN.{ℤ}
+use lib.ListN.{length, getD, drop}
+use Rattle.lists.specs.Lists.{range, consIf, each}
+use Rattle.lists.specs.Reach.{Reach, reached}
+use Rattle.paper.specs.declared.Sizes.{Sizes}
+use Rattle.paper.specs.Lattice.{Lattice, lattice, visited}
+use Rattle.bits.specs.Words.{bit, On}
+use Rattle.rows.specs.Rows.{HasRows, HasCubes}
+use Rattle.spread.specs.Plan.{Plan}
+use Rattle.spread.specs.Ways.{words, rowsOf}
+
+-- l is as l₀ was past the first n
+pub record Beyond (n : ℕ) (l₀ l : List ℕ) : Type 0 where
+  pub same-length : length l ≡ length l₀
+  pub rest : drop n l ≡ drop n l₀
+
+-- the first n words are there, and are 0
+pub record Empty (n : ℕ) (l : List ℕ) : Type 0 where
+  pub fit : n ≤ length l
+  pub none : (r : ℕ) → r < n → getD l r 0 ≡ 0
+
+-- cube x of row r by its number
+abbrev pub cell : ℕ → ℕ → ℕ
+cell r x = 64 * r + x
+
+-- the steps from cube x of row r: through the gates of the row and through its doors
+unfoldable pub stepsFrom : Plan → ℕ → ℕ → List ℕ
+stepsFrom P r x =
+    consIf (ltb (suc x) 64 && bit (P .gate r) (suc x)) (cell r (suc x)) []
+    ++ (consIf (ltb 0 x && bit (P .gate r) x) (cell r (x - 1)) []
+    ++ each (λ j. consIf (bit (P .door r j) x) (cell (P .beside r j) x) []) (range 0 4))
+
+unfoldable pub steps : Plan → ℕ → List ℕ
+steps P k = stepsFrom P (k / 64) (k % 64)
+
+-- place x of word r of vis is set exactly where cube x of row r is reached
+pub record Exactly (P : Plan) (start : ℕ) (vis : List ℕ) (r x : ℕ) : Type 0 where
+  pub within : On (getD vis r 0) x → Reach (steps P) start (cell r x)
+  pub whole : Reach (steps P) start (cell r x) → On (getD vis r 0) x
+
+-- what a flood by rows is lent: the words of visited cubes, and the list of waiting rows
+pub record Room : Type 0 where
+  pub vis : List ℕ
+  pub waiting : List ℕ
+
+abbrev pub room : List ℕ → List ℕ → Room
+room v w = record { vis = v; waiting = w }
+
+-- a flood along a plan, which returns count
+pub record Flooded (P : Plan) (start : ℕ) (before after : Room) (count : ℕ) : Type 0 where
+  pub marked : (r x : ℕ) → r < P .size → x < 64 → Exactly P start (after .vis) r x
+  pub fits : (r : ℕ) → r < P .size → getD (after .vis) r 0 < 2 ^ 64
+  pub number : count ≡ length (reached (steps P) (64 * P .size) start)
+  pub on-vis : Beyond (P .size) (before .vis) (after .vis)
+  pub on-waiting : Beyond (P .room) (before .waiting) (after .waiting)
+
+-- ── in document 01 ──
+
+-- vis has the visited cubes, and count is how many they are
+pub record Visits (L : Lattice) (start : ℕ) (vis : List ℕ) (count : ℕ) : Type 0 where
+  pub cubes : HasCubes (L .size) (visited L start) vis
+  pub number : count ≡ length (visited L start)
+
+-- a flood of any lattice that has these rows of sides: nothing changes past the words and the rows of cubes
+pub record Spreads (z : Sizes) (rows : List ℕ) (start : ℕ) (before after : Room) (count : ℕ) : Type 0 where
+  pub visits : (s : List ℤ) → HasRows (lattice z s) rows → Visits (lattice z s) start (after .vis) count
+  pub on-vis : Beyond (words z) (before .vis) (after .vis)
+  pub on-waiting : Beyond (rowsOf z) (before .waiting) (after .waiting)
