@@ -99,7 +99,8 @@ pub record Written (s : List ℕ) (m at t next : ℕ) (table₀ table : List ℕ
 
 -- ── what they are ──
 
-along-same : (f g : ℕ → ℕ) (i n : ℕ) → ((k : ℕ) → k < i + n → f k ≡ g k) → map f (range i n) ≡ map g (range i n)
+-- entries that agree
+pub along-same : (f g : ℕ → ℕ) (i n : ℕ) → ((k : ℕ) → k < i + n → f k ≡ g k) → map f (range i n) ≡ map g (range i n)
 along-same f g i zero h = refl
 along-same f g i (suc n) h = λ j. h i (omega arith) j ∷ along-same f g (suc i) n (λ k l. h k (omega arith)) j
 
