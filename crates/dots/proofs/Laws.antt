@@ -7,7 +7,7 @@ use native.Mathlib.Omega.{arith}
 use lib.IntN.{ℤ}
 use lib.ListN.{length, set, length-set, length-append}
 use lib.Seq.{sets, length-sets}
-use Rattle.lists.specs.Lists.{range, each}
+use Rattle.lists.specs.Lists.{each}
 use Rattle.lists.proofs.Runs.{each-more, each-prefix}
 use Rattle.lists.proofs.Stores.{each-behind}
 use Rattle.paper.specs.Lattice.{Lattice}

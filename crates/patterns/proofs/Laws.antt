@@ -1,9 +1,9 @@
 -- The steps of a pattern, one behind the other, and where the table has them. Assumes nothing.
-use mathlib.Core.Path.{_≡_, refl, sym, ap, subst, _∙_}
+use mathlib.Core.Path.{_≡_, refl, sym, ap, _∙_}
 use mathlib.Core.List.{List, [], _∷_, _++_, map, map-map}
-use Prim.Native.Nat.{ℕ, zero, suc, _+_, _-_, _*_, _/_, _%_, _^_, _≤_, _<_}
+use Prim.Native.Nat.{ℕ, zero, suc, _+_, _-_, _*_, _/_, _%_, _≤_, _<_}
 use native.Mathlib.Omega.{arith}
-use native.Mathlib.Nat.{zero-add, mod-lt}
+use native.Mathlib.Nat.{zero-add}
 use native.Mathlib.Decide.{decLt}
 use native.Mathlib.Numerals.{add-one}
 use lib.ListN.{length, getD, set, length-set, length-append}
@@ -18,7 +18,7 @@ use Rattle.paper.specs.Lattice.{Lattice, sampleNo, cubeAt}
 use Rattle.paper.specs.Within.{Sized}
 use Rattle.paper.specs.Tables.{Tri, tri, rows}
 use Rattle.paper.specs.Sheet.{cubeTriangles, corners3}
-use Rattle.tetra.specs.Cut.{tetCorner, tetStep, rowBy, rowCount, rowEdge, rowSteps, rowTriangles, trianglesBy}
+use Rattle.tetra.specs.Cut.{tetStep, rowBy, rowCount, rowEdge, rowSteps, rowTriangles, trianglesBy}
 use Rattle.tetra.proofs.Tables.{count-le, edge-six}
 use Rattle.tetra.proofs.Laws.{row-step-at, tet-step-small, cube-triangles-by}
 use Rattle.sides.specs.Pattern.{bitOf, patternAt}

@@ -7,7 +7,7 @@ use native.Mathlib.Omega.{arith}
 use native.Mathlib.Numerals.{add-one}
 use lib.ListN.{length, getD, length-append}
 use lib.Seq.{sets}
-use Rattle.lists.specs.Lists.{range, each}
+use Rattle.lists.specs.Lists.{range}
 use Rattle.lists.proofs.Runs.{along-snoc, length-along, each-more, each-prefix}
 use Rattle.bits.specs.Words.{bit}
 use Rattle.rows.specs.declared.Quad.{Quad}

@@ -3,11 +3,11 @@ use mathlib.Core.Path.{_≡_, sym, ap, subst, _∙_}
 use mathlib.Core.List.{List}
 use Prim.Native.Nat.{ℕ, _+_, _-_, _*_}
 use native.Mathlib.Omega.{arith}
-use lib.ListN.{length, set}
+use lib.ListN.{set}
 use denote.Ref.{now}
 use Rattle.tetra.specs.Cut.{rowSteps}
 use Rattle.patterns.specs.Table.{patternFrom, Small, Tabled}
-use Rattle.patterns.proofs.Laws.{Filling, filling-none, filling-more, pattern-is, pattern-le, steps-small}
+use Rattle.patterns.proofs.Laws.{Filling, filling-none, filling-more, pattern-is, steps-small}
 use borrow.Author.Needs.{needs}
 use Rattle.patterns.proofs.pattern_table.Statement.{statement}
 use Rattle.patterns.proofs.pattern_table.Tie as tie

@@ -7,7 +7,7 @@ use lib.ListN.{length}
 use lib.Seq.{sets}
 use denote.Ref.{now}
 use Rattle.lists.proofs.Member.{eq→T}
-use Rattle.tiles.specs.Tiles.{Source, source, sizeOf, tileOf, tileAt, Reaching}
+use Rattle.tiles.specs.Tiles.{Source, source, tileOf, tileAt, Reaching}
 use Rattle.tiles.proofs.Laws.{tile-length, place-on, place-off}
 use borrow.Author.Needs.{needs}
 use Rattle.tiles.proofs.put_place.Statement.{statement}
