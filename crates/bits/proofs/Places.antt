@@ -8,8 +8,8 @@ use native.Mathlib.Omega.{arith}
 use lib.Arith.{digits-mod, digits-div, bin-ind}
 use lib.Bits.{bitAnd, bitOr, and-step, or-step, and-le-l}
 use lib.Count.{ones, ones-step}
-use lib.Dec.{T, eqb, eqb→eq, T-not}
-use Rattle.lists.proofs.Member.{T→eq, or-cases, or-left, or-right, and-both, and-left, and-right}
+use lib.Dec.{T, eqb→eq, T-not}
+use Rattle.lists.proofs.Member.{or-cases, or-left, or-right, and-both, and-left, and-right}
 use Rattle.lists.proofs.Within.{eqb-of}
 use Rattle.bits.specs.Words.{bit, On, less}
 use Rattle.bits.proofs.Bits.{bit-and, bit-or, bit-not, bit-pow, bit-of-0, word-same}

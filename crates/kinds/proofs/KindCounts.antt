@@ -1,7 +1,7 @@
 -- How many edges of a row have a vertex. Assumes nothing.
-use mathlib.Core.Path.{_≡_, refl, sym, ap, _∙_}
+use mathlib.Core.Path.{_≡_, refl, ap, _∙_}
 use mathlib.Core.Bool.{Bool, true, false}
-use mathlib.Core.List.{List, [], _∷_, _++_}
+use mathlib.Core.List.{List, [], _∷_}
 use Prim.Native.Nat.{ℕ, zero, suc, _+_, _*_, _/_, _%_, _^_, _<_}
 use native.Mathlib.Omega.{arith}
 use lib.Count.{ones}
@@ -15,14 +15,14 @@ use Rattle.bits.proofs.Counts.{ones-bits}
 use Rattle.kinds.specs.declared.KindWords.{KindWords}
 use Rattle.kinds.specs.Kinds.{seven, isEdge}
 
-count-cons : (p : ℕ → Bool) (i : ℕ) (l : List ℕ) → count p (i ∷ l) ≡ weight (p i) 1 + count p l
+pub count-cons : (p : ℕ → Bool) (i : ℕ) (l : List ℕ) → count p (i ∷ l) ≡ weight (p i) 1 + count p l
 count-cons p i l = go (p i)
   where
     go : (b : Bool) → length (consIf b i (keep p l)) ≡ weight b 1 + length (keep p l)
     go true = omega arith
     go false = omega arith
 
-count-join : (p : ℕ → Bool) (a m n : ℕ) → count p (range a (m + n)) ≡ count p (range a m) + count p (range (a + m) n)
+pub count-join : (p : ℕ → Bool) (a m n : ℕ) → count p (range a (m + n)) ≡ count p (range a m) + count p (range (a + m) n)
 count-join p a m n = ap (count p) (range-join a m n) ∙ count-append p (range a m) (range (a + m) n)
 
 -- the first n tests of one more

@@ -1,13 +1,14 @@
 -- The bits of the seven words are the edges with a vertex. Assumes nothing.
-use mathlib.Core.Path.{_≡_, refl, sym, ap, ap₂, _∙_}
+use mathlib.Core.Path.{_≡_, refl, sym, ap, ap₂, subst, _∙_}
 use mathlib.Core.Bool.{Bool, true, false, cond, xor, _&&_, _||_, and-false}
 use mathlib.Core.List.{List, [], _∷_}
-use Prim.Native.Nat.{ℕ, zero, suc, _+_, _-_, _*_, _/_, _%_, _<_}
+use Prim.Native.Nat.{ℕ, zero, suc, _+_, _-_, _/_, _%_, _≤_, _<_}
 use native.Mathlib.Omega.{arith}
 use lib.Dec.{T, leb, ltb, leb→le, ltb→lt}
 use lib.ListN.{getD}
 use borrow.Author.Tests.{le-leb, lt-ltb}
 use Rattle.lists.specs.Lists.{any, all, each, isIn}
+use Rattle.lists.proofs.Within.{T→false}
 use Rattle.lists.proofs.Member.{eq→T, and-left, and-right, and3, any-in}
 use Rattle.lists.proofs.Every.{All, all-in, all-test, all-weak}
 use Rattle.lists.proofs.Computed.{upto, upto-at}
@@ -67,16 +68,34 @@ fits-at j h =
     (all-test (λ o. ltb o 8 && (fitsAt o (endsOf j .a) && fitsAt o (endsOf j .b))) (getD anchors j [])
     (upto-at 7 (λ j. all (λ o. ltb o 8 && (fitsAt o (endsOf j .a) && fitsAt o (endsOf j .b))) (getD anchors j [])) fits-all j h))
 
+-- ── the words at a place ──
+
+-- the cubes around it
+module _ (n : Sizes) (vs : List ℕ) (p : Place) (v : Quad) (visits : VisitsAt n vs (p .y) (p .z) v) where
+  cube-is : (o : ℕ) → o < 8 → cubeBit v (p .x) o ≡ cornerOf n vs p o
+  unfolding cubeBit cornerOf
+  cube-is o h =
+      lowered-is (getD (four v) (o / 2) 0) (isCube n vs (p .y) (p .z) (o / 2)) (λ x. visits .bits (o / 2) x (omega arith)) (o % 2) (p .x)
+      (omega arith)
+
+  -- past the last sample of a row there is none
+  pub kind-high : (f : Quad) (j : ℕ) → j < 7 → n .nx ≤ p .x → kindBit f v j (p .x) ≡ false
+  unfolding kindBit
+  kind-high f j h l =
+      let e = xor (cornerBit f (p .x) (endsOf j .a)) (cornerBit f (p .x) (endsOf j .b)) in
+      let os = getD anchors j [] in
+      T→false (e && any (cubeBit v (p .x)) os)
+      (λ t.
+      let a = any-in (cubeBit v (p .x)) os (and-right e (any (cubeBit v (p .x)) os) t) in
+      let o = a .0 in
+      let w = all-in (λ o. Fits o j) os (fits-at j h) o (a .1 .0) in
+      let s = standing n vs p o (subst T (cube-is o (w .below)) (a .1 .1)) in
+      omega (arith, s .inside .x))
+
 -- ── the words at a sample ──
 
 module _ (L : Lattice) (vs : List ℕ) (p : Place) (f v : Quad) (hp : SampleIn (L .size) p)
     (sides : SidesAt L (p .y) (p .z) f) (visits : VisitsAt (L .size) vs (p .y) (p .z) v) where
-  cube-is : (o : ℕ) → o < 8 → cubeBit v (p .x) o ≡ cornerOf (L .size) vs p o
-  unfolding cubeBit cornerOf
-  cube-is o h =
-      lowered-is (getD (four v) (o / 2) 0) (isCube (L .size) vs (p .y) (p .z) (o / 2)) (λ x. visits .bits (o / 2) x (omega arith)) (o % 2)
-      (p .x) (omega arith)
-
   -- a corner that is in the lattice
   row-side : (w x y z : ℕ) (q : Place) → w ≡ sideRow L y z → x < L .size .nx → place x y z ≡ q → bit w x ≡ airAt L q
   unfolding sideRow
@@ -150,7 +169,8 @@ module _ (L : Lattice) (vs : List ℕ) (p : Place) (f v : Quad) (hp : SampleIn (
       let x₁ = xor (cornerBit f (p .x) (k .a)) (cornerBit f (p .x) (k .b)) in
       let e : any (cubeBit v (p .x)) l ≡ any (cornerOf (L .size) vs p) l =
       any-same (cubeBit v (p .x)) (cornerOf (L .size) vs p) l
-      (all-weak (λ o. Fits o j) (λ o. cubeBit v (p .x) o ≡ cornerOf (L .size) vs p o) (λ o t. cube-is o (t .below)) l (fits-at j h)) in
+      (all-weak (λ o. Fits o j) (λ o. cubeBit v (p .x) o ≡ cornerOf (L .size) vs p o)
+      (λ o t. cube-is (L .size) vs p v visits o (t .below)) l (fits-at j h)) in
       ap (λ (b : Bool). x₁ && b) e ∙ (go (any (cornerOf (L .size) vs p) l) refl ∙ edge-has L s vs within p hp j h)
     where
       go : (b : Bool) → any (cornerOf (L .size) vs p) (getD anchors j []) ≡ b

@@ -2,23 +2,22 @@
 use mathlib.Core.Path.{_≡_, refl, sym, ap, ap₂, _∙_}
 use mathlib.Core.Bool.{Bool, true, false, _&&_}
 use mathlib.Core.List.{List, [], _∷_, map}
-use Prim.Native.Nat.{ℕ, zero, suc, _+_, _*_, _<_}
+use Prim.Native.Nat.{ℕ, _+_, _*_, _<_}
 use native.Mathlib.Omega.{arith}
 use lib.Dec.{T, ltb, ltb→lt}
 use lib.ListN.{length, getD, length-append, length-map}
 use Rattle.lists.specs.Lists.{all, each}
 use Rattle.lists.proofs.Member.{and-left, and-right}
 use Rattle.lists.proofs.Every.{All, all-test}
-use Rattle.lists.proofs.Runs.{at-along}
 use Rattle.paper.specs.declared.Place.{Place}
-use Rattle.paper.specs.Lattice.{Lattice, place, airAt, corner, cubeNo}
+use Rattle.paper.specs.Lattice.{Lattice, place, airAt, cubeNo}
 use Rattle.paper.specs.Tables.{Tet, tets, rows}
 use Rattle.paper.specs.Sheet.{weight, rowOf, rowAt, triEdges, trianglesAt, cubeTriangles}
 use Rattle.paper.specs.Within.{CubeIn}
 use Rattle.paper.proofs.Numbers.{cube-place}
 use Rattle.rows.specs.declared.Quad.{Quad}
 use Rattle.bits.specs.Words.{bit, total}
-use Rattle.rows.specs.Rows.{pairs, HasRows, quadAt, four, cornerBit}
+use Rattle.rows.specs.Rows.{HasRows, quadAt}
 use Rattle.rows.proofs.Cubes.{corner-is}
 use Rattle.kinds.specs.Triangles.{tetCount, tetIn, sumOf, rowTotal}
 use Rattle.kinds.proofs.Triangles.{total-ext}

@@ -5,10 +5,10 @@ use mathlib.Core.List.{List, [], _∷_}
 use Prim.Native.Nat.{ℕ, _+_, _-_, _*_, _/_, _%_, _<_}
 use lib.Dec.{leb, ltb}
 use lib.ListN.{getD}
-use Rattle.lists.specs.Lists.{any, isIn}
+use Rattle.lists.specs.Lists.{any}
 use Rattle.paper.specs.declared.Sizes.{Sizes}
 use Rattle.paper.specs.declared.Place.{Place}
-use Rattle.paper.specs.Lattice.{Lattice, place, cubeNo, inLattice}
+use Rattle.paper.specs.Lattice.{Lattice, place}
 use Rattle.paper.specs.Sheet.{endsOf}
 use Rattle.bits.specs.Words.{bit, word, lowered}
 use Rattle.rows.specs.declared.Quad.{Quad}

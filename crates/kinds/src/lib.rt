@@ -2,10 +2,12 @@
 use paper::Sizes;
 use rows::Quad;
 ghost use mathlib.Core.Path.{_≡_};
-ghost use Prim.Native.Nat.{_*_, _≤_, _<_};
+ghost use Prim.Native.Nat.{_+_, _*_, _≤_, _<_};
 ghost use lib.ListN.{length};
 ghost use Rattle.lists.specs.Lists.{range, count};
+ghost use Rattle.paper.specs.Sheet.{weight};
 ghost use Rattle.paper.specs.Within.{Sized};
+ghost use Rattle.bits.specs.Words.{bit, word};
 ghost use Rattle.kinds.specs.Kinds.{kindsOf, isEdge, rowAt, rowBefore, sidesAround, cubesAround};
 ghost use Rattle.kinds.specs.Triangles.{tetTotal, rowTotal};
 
@@ -50,6 +52,23 @@ pub fn kinds_count(k: KindWords) -> usize
 {
     let a = bits::ones(k.k0) + bits::ones(k.k1) + bits::ones(k.k2) + bits::ones(k.k3);
     a + bits::ones(k.k4) + bits::ones(k.k5) + bits::ones(k.k6)
+}
+
+// Bit x of a word.
+fn one(w: u64, x: usize) -> u64
+    requires { ⌜ x < 64 ⌝ }
+    ensures { λ r. ⌜ (r ≡ weight (bit w x) 1) × (r ≤ 1) ⌝ }
+{
+    (w >> x) % 2
+}
+
+// The kinds of the edges with a vertex of the anchor at x, as the bits of a word.
+pub fn kinds_at(k: KindWords, x: usize) -> u64
+    requires { ⌜ x < 64 ⌝ }
+    ensures { λ r. ⌜ (r ≡ word (λ j. isEdge k (7 * x + j)) 7) × (r < 128) ⌝ }
+{
+    let a = one(k.k0, x) + 2 * one(k.k1, x) + 4 * one(k.k2, x) + 8 * one(k.k3, x);
+    a + 16 * one(k.k4, x) + 32 * one(k.k5, x) + 64 * one(k.k6, x)
 }
 
 // The word at y and z, or 0 where there is none.

@@ -6,7 +6,7 @@ use Prim.Native.Nat.{ℕ, zero, suc, _+_, _-_, _*_, _/_, _%_, _^_, _≤_, _<_}
 use native.Mathlib.Omega.{arith}
 use native.Mathlib.Nat.{div-div-eq-div-mul, mul-add, mul-le-mul-left}
 use lib.Arith.{digits-lt}
-use lib.Bits.{bitAnd, bitOr, bitXor}
+use lib.Bits.{bitAnd, bitXor}
 use lib.IntN.{pos}
 use lib.ListN.{length, getD, length-append}
 use Rattle.lists.specs.Lists.{range, each, over}

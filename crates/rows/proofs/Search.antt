@@ -5,10 +5,8 @@ use mathlib.Core.List.{List}
 use Prim.Native.Nat.{ℕ, _+_, _-_, _*_, _≤_, _<_}
 use native.Mathlib.Omega.{arith}
 use native.Mathlib.Decide.{decLt}
-use lib.Dec.{eqb, ltb}
-use borrow.Author.Tests.{lt-ltb, le-ltb, eqb-true}
-use Rattle.lists.specs.Lists.{range, any}
-use Rattle.lists.proofs.Runs.{any-first}
+use lib.Dec.{eqb}
+use borrow.Author.Tests.{eqb-true}
 use Rattle.paper.specs.declared.Sizes.{Sizes}
 use Rattle.paper.specs.declared.Place.{Place}
 use Rattle.paper.specs.Lattice.{Lattice, place, crossed, cubes, cubeNo, cubeAt, lowest}
@@ -17,7 +15,7 @@ use Rattle.paper.proofs.Numbers.{cube-place, cube-inside, cube-back, cube-lt}
 use Rattle.sides.proofs.Search.{none, found}
 use Rattle.bits.specs.Words.{bit, word}
 use Rattle.bits.proofs.Bits.{bit-of-0, bit-word}
-use Rattle.rows.specs.Rows.{HasRows, rowNo, quadAt, crossedIn, crossedBy, lookedAt}
+use Rattle.rows.specs.Rows.{HasRows, quadAt, crossedIn, crossedBy, lookedAt}
 use Rattle.rows.proofs.Cubes.{crossed-is}
 
 -- where none of the bits looked at is set, none is

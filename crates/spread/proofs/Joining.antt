@@ -1,15 +1,15 @@
 -- The gates and doors of rows of sides mean document 01's faces. Assumes nothing.
-use mathlib.Core.Path.{_≡_, refl, sym, ap, ap₂, subst, _∙_}
+use mathlib.Core.Path.{_≡_, refl, sym, ap, ap₂, _∙_}
 use mathlib.Core.Bool.{Bool, true, false, cond, _&&_}
 use mathlib.Core.List.{List}
-use Prim.Native.Nat.{ℕ, zero, suc, _+_, _-_, _*_, _/_, _%_, _≤_, _<_}
+use Prim.Native.Nat.{ℕ, zero, suc, _+_, _-_, _*_, _/_, _%_, _<_}
 use native.Mathlib.Omega.{arith}
 use native.Mathlib.Decide.{decLt}
 use lib.Dec.{T, ltb, ltb→lt, lt→ltb}
 use lib.Arith.{digits-lt}
-use lib.ListN.{length, getD, replicate, getD-replicate, length-replicate}
+use lib.ListN.{replicate, getD-replicate, length-replicate}
 use borrow.Author.Tests.{lt-ltb}
-use Rattle.lists.proofs.Member.{T→eq, and3, both3, and-both, and-left, and-right}
+use Rattle.lists.proofs.Member.{T→eq, and3, and-both, and-left}
 use Rattle.lists.proofs.Closure.{bool-same}
 use Rattle.paper.specs.declared.Sizes.{Sizes}
 use Rattle.paper.specs.declared.Place.{Place}
@@ -18,7 +18,6 @@ use Rattle.paper.specs.Within.{Sized, CubeIn}
 use Rattle.paper.proofs.Visits.{in-lattice, lattice-in, visitable-in, in-visitable}
 use Rattle.bits.specs.Words.{bit, word}
 use Rattle.bits.proofs.Bits.{bit-of-0, bit-word, bit-lt, word-lt}
-use Rattle.rows.specs.declared.Quad.{Quad}
 use Rattle.rows.specs.Rows.{HasRows, rowNo, quadAt, acrossIn, faceRow}
 use Rattle.rows.proofs.Cubes.{face-bit, face-is, high-is}
 use Rattle.spread.specs.Ways.{isWay, nextRow, gateAt, doorAt, besideAt, words, RowIn, planOf}

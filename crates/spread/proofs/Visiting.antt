@@ -25,7 +25,7 @@ use Rattle.paper.proofs.Visits.{in-lattice, lattice-in, visitable-in, Exactly, 
 use Rattle.paper.proofs.Steps.{face-shared}
 use Rattle.bits.specs.Words.{bit, On}
 use Rattle.bits.proofs.Bits.{bit-lt}
-use Rattle.rows.specs.Rows.{rowNo, isOneOf, HasCubes}
+use Rattle.rows.specs.Rows.{rowNo, isOneOf}
 use Rattle.spread.specs.Plan.{Plan}
 use Rattle.spread.specs.Flooded.{Room, cell, steps as rowSteps, Flooded, Visits}
 use Rattle.spread.proofs.Finish.{cell-row, cell-place, Stepped, rose, fell, went, from-cell, by-cell, steps-lt}

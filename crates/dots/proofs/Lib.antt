@@ -1,0 +1,2 @@
+-- Laws of vertices one behind the other.
+pub mod Laws

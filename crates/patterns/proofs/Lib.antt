@@ -1,0 +1,2 @@
+-- Laws of the table of patterns.
+pub mod Laws
