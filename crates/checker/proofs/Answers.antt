@@ -6,12 +6,12 @@ use Prim.Native.Nat.{ℕ, _<_}
 use lib.IntN.{ℤ}
 use lib.ListN.{length, drop}
 use borrow.Author.Tests.{eq-eqb, ne-eqb}
+use Rattle.lists.specs.Lists.{Beyond}
 use Rattle.paper.specs.declared.Sizes.{Sizes}
 use Rattle.paper.specs.Lattice.{Lattice, cubes}
 use Rattle.paper.specs.Tests.{verdict, judge}
 use Rattle.paper.specs.Room.{needed, neededSlots, Work}
 use Rattle.paper.specs.File.{fileV, fileT, fileVertices, fileTriangles}
-use Rattle.flood.specs.Flooded.{Beyond}
 use Rattle.measure.specs.declared.Counts.{Counts}
 use Rattle.records.specs.Records.{edgeAt, firstBadIn as firstBadRecord, slotsAfter}
 use Rattle.records.proofs.Laws.{after-length as slots-length}

@@ -8,7 +8,7 @@ use lib.Dec.{eqb}
 use lib.IntN.{ℤ}
 use lib.ListN.{length, getD, drop, replicate, length-map}
 use borrow.Author.Tests.{eqb-true}
-use Rattle.lists.specs.Lists.{range, first, isIn, cleared}
+use Rattle.lists.specs.Lists.{range, first, isIn, cleared, Beyond}
 use Rattle.paper.specs.declared.Sizes.{Sizes}
 use Rattle.paper.specs.declared.Start.{Start}
 use Rattle.paper.specs.declared.Verdict.{Verdict}
@@ -24,13 +24,13 @@ use Rattle.paper.proofs.Judged.{Numbered, numbered-both, judge-past, judge-stop
 use Rattle.paper.proofs.Tested.{recorded, listed}
 use Rattle.paper.proofs.Passing.{sample-numbered, file-numbered, work-kept, work-cleared}
 use Rattle.paper.proofs.Listing.{parts, sheet-edges-lt}
-use Rattle.flood.specs.Flooded.{wordOf, Beyond}
+use Rattle.flood.specs.Flooded.{wordOf}
 use Rattle.layout.specs.Laid.{LaidOut}
 use Rattle.measure.specs.declared.Counts.{Counts}
 use Rattle.measure.specs.Measured.{Measured}
 use Rattle.measure.proofs.Words.{word-at}
-use Rattle.lists.proofs.Stores.{cleared-at, cleared-rest}
-use Rattle.measure.proofs.Measuring.{clear-beyond, undone}
+use Rattle.lists.proofs.Stores.{cleared-at, cleared-rest, clear-beyond}
+use Rattle.measure.proofs.Measuring.{undone}
 use Rattle.measure.proofs.Crossed.{slot-used, all-cross}
 use Rattle.records.specs.Records.{firstBadIn as firstBadRecord}
 use Rattle.lists.proofs.Firsts.{first-before}

@@ -5,6 +5,7 @@ use mathlib.Core.List.{List, [], _∷_}
 use Prim.Native.Nat.{ℕ}
 use lib.Dec.{eqb}
 use lib.ListN.{drop}
+use Rattle.lists.specs.Lists.{Beyond}
 use Rattle.paper.specs.declared.Verdict.{Verdict}
 use Rattle.paper.specs.Lattice.{Lattice, cubes}
 use Rattle.paper.specs.Room.{Work, needed, neededSlots}
@@ -13,7 +14,6 @@ use Rattle.paper.specs.Tests.{Test, test, testAt, judge}
 use Rattle.paper.specs.Sheet.{sheetOf}
 use Rattle.paper.specs.File.{fileV, fileT, fileVertices, fileTriangles}
 use Rattle.paper.specs.Check.{sheetTests}
-use Rattle.flood.specs.Flooded.{Beyond}
 use Rattle.layout.specs.Laid.{LaidOut}
 use Rattle.measure.specs.declared.Counts.{Counts}
 use Rattle.measure.specs.Crossed.{AllCross}

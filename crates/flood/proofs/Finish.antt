@@ -9,18 +9,18 @@ use lib.Dec.{T, eqb, eqb·suc-zero}
 use lib.ListN.{length, getD, take, drop, take-append-drop, length-append}
 use lib.Seq.{ext-getD, length-take-le, getD-take}
 use borrow.Author.Tests.{eq-eqb, ne-eqb}
-use Rattle.lists.specs.Lists.{range, isIn, keep, consIf}
+use Rattle.lists.specs.Lists.{range, isIn, keep, consIf, Beyond}
 use Rattle.lists.specs.Reach.{step}
 use Rattle.lists.proofs.Member.{T→eq, eq→T, in-keep, in-range}
 use Rattle.lists.proofs.Closure.{marks-are}
 use Rattle.lists.proofs.Runs.{length-along, at-along, keep-snoc}
+use Rattle.lists.proofs.Stores.{beyond-trans}
 use Rattle.paper.specs.Lattice.{Lattice, cubes, steps, Visited, visited}
 use Rattle.paper.proofs.Visits.{step-lt}
 use Rattle.sides.specs.Pattern.{stepTo}
 use Rattle.sides.proofs.Laws.{step-by, by-step}
 use Rattle.flood.specs.Flow.{Flow, blank, one-if-zero}
-use Rattle.flood.specs.Flooded.{wordOf, wordsOf, Beyond, Flooded}
-use Rattle.flood.proofs.Laws.{beyond-trans}
+use Rattle.flood.specs.Flooded.{wordOf, wordsOf, Flooded}
 use Rattle.flood.proofs.Going.{Turn, settled}
 
 pub word-some : (L : Lattice) (k : ℕ) → 0 < wordOf L k

@@ -8,11 +8,11 @@ use native.Mathlib.Decide.{ℕ-discrete}
 use native.Mathlib.Omega.{arith}
 use lib.ListN.{length, getD, set, drop, replicate, length-drop, getD-replicate, length-replicate, length-append, List·getD-append}
 use lib.Seq.{drop-at, getD-set-same, getD-set-other}
-use Rattle.lists.specs.Lists.{cleared}
+use Rattle.lists.proofs.Stores.{beyond-refl, beyond-trans}
+use Rattle.lists.specs.Lists.{cleared, Beyond}
 use Rattle.lists.specs.Reach.{step}
 use Rattle.flood.specs.Flow.{Flow, flow, push, pushes, blank, Roomy}
-use Rattle.flood.specs.Flooded.{Beyond}
-use Rattle.flood.proofs.Laws.{Kept, beyond-refl, beyond-trans, blank-all, push-kept-of, pushes-kept-of, pushed, push-elim, push-room, pushed-kept, pushes-kept, roomy-kept}
+use Rattle.flood.proofs.Laws.{Kept, blank-all, push-kept-of, pushes-kept-of, pushed, push-elim, push-room, pushed-kept, pushes-kept, roomy-kept}
 
 -- a store, read at its own place and at another
 set-cases : (l : List ℕ) (i v j : ℕ) → i < length l

@@ -10,8 +10,9 @@ use lib.Dec.{eqb, ltb}
 use lib.ListN.{length, getD, set, replicate, length-set}
 use lib.Seq.{drop-set-lt}
 use borrow.Author.Tests.{ltb-true, ltb-false, eqb-true, eqb-false}
+use Rattle.lists.proofs.Stores.{beyond-refl, beyond-trans, beyond-set}
+use Rattle.lists.specs.Lists.{Beyond}
 use Rattle.flood.specs.Flow.{Flow, flow, push, pushes, blank, one-if-zero, Roomy}
-use Rattle.flood.specs.Flooded.{Beyond}
 
 -- ── counting the blanks ──
 
@@ -33,15 +34,6 @@ blank-all zero l = refl
 blank-all (suc n) l = let ih = blank-all n l in omega arith
 
 -- ── what is kept past the first n ──
-
-pub beyond-refl : (n : ℕ) (l : List ℕ) → Beyond n l l
-beyond-refl n l = record { same-length = refl; rest = refl }
-
-pub beyond-trans : {n : ℕ} {a b c : List ℕ} → Beyond n a b → Beyond n b c → Beyond n a c
-beyond-trans p q = record { same-length = q .same-length ∙ p .same-length; rest = q .rest ∙ p .rest }
-
-beyond-set : (n : ℕ) (l : List ℕ) (i v : ℕ) → i < n → Beyond n l (set l i v)
-beyond-set n l i v h = record { same-length = length-set l i v; rest = drop-set-lt n l i v h }
 
 -- every word is above 0
 module _ (word : ℕ → ℕ) (some : (k : ℕ) → 0 < word k) where

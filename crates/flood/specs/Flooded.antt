@@ -4,7 +4,7 @@ use mathlib.Core.Bool.{cond}
 use mathlib.Core.List.{List, map}
 use Prim.Native.Nat.{ℕ, _+_}
 use lib.ListN.{length, drop}
-use Rattle.lists.specs.Lists.{range, isIn, over}
+use Rattle.lists.specs.Lists.{range, isIn, over, Beyond}
 use Rattle.paper.specs.Lattice.{Lattice, cubes, cubeAt, visited}
 use Rattle.sides.specs.Pattern.{patternAt}
 
@@ -15,11 +15,6 @@ wordOf L k = 256 + patternAt L (cubeAt (L .size) k)
 -- the words of the visited cubes, and 0 for the others
 unfoldable pub wordsOf : Lattice → List ℕ → List ℕ
 wordsOf L vs = map (λ k. cond (isIn vs k) (wordOf L k) 0) (range 0 (cubes (L .size)))
-
--- l is as l₀ was past the first n
-pub record Beyond (n : ℕ) (l₀ l : List ℕ) : Type 0 where
-  pub same-length : length l ≡ length l₀
-  pub rest : drop n l ≡ drop n l₀
 
 -- words and waiting are the slices before, words′ and waiting′ those after, r the number returned
 pub record Flooded (L : Lattice) (start : ℕ) (words waiting words′ waiting′ : List ℕ) (r : ℕ) : Type 0 where

@@ -3,7 +3,7 @@ use mathlib.Core.Path.{_≡_, refl, sym, ap, subst, _∙_}
 use mathlib.Core.Logic.{_⊎_, inl, inr}
 use mathlib.Core.Bool.{Bool, true, false, cond, _||_, or-false}
 use mathlib.Core.List.{List, [], _∷_, _++_, map, append-assoc, append-nil, map-append}
-use Prim.Native.Nat.{ℕ, zero, suc, _+_, _-_, _≤_, _<_}
+use Prim.Native.Nat.{ℕ, zero, suc, _+_, _-_, _*_, _≤_, _<_}
 use native.Mathlib.Omega.{arith}
 use native.Mathlib.Nat.{add-zero, zero-add}
 use native.Mathlib.Numerals.{add-one}
@@ -29,6 +29,15 @@ range-join a (suc m) n =
     let e : suc m + n ≡ suc (m + n) = omega arith in
     let f : suc a + m ≡ a + suc m = omega arith in
     ap (range a) e ∙ ap (λ (l : List ℕ). a ∷ l) (range-join (suc a) m n ∙ ap (λ (b : ℕ). range (suc a) m ++ range b n) f)
+
+-- n runs of w numbers, from run i on
+pub range-rows : (w i n : ℕ) → range (w * i) (w * n) ≡ each (λ k. range (w * k) w) (range i n)
+range-rows w i zero = let e : w * 0 ≡ 0 = omega arith in ap (range (w * i)) e
+range-rows w i (suc n) =
+    let e : w * suc n ≡ w + w * n = omega arith in
+    let q : w * i + w ≡ w * suc i = omega arith in
+    ap (range (w * i)) e
+    ∙ (range-join (w * i) w (w * n) ∙ ap (λ (l : List ℕ). range (w * i) w ++ l) (ap (λ (a : ℕ). range a (w * n)) q ∙ range-rows w (suc i) n))
 
 module _ {A : Type 0} (p : A → Bool) where
   pub keep-append : (l m : List A) → keep p (l ++ m) ≡ keep p l ++ keep p m
@@ -62,6 +71,10 @@ module _ {A B : Type 0} (f : A → List B) where
   each-append (x ∷ xs) m = ap (λ (l : List B). f x ++ l) (each-append xs m) ∙ sym (append-assoc (f x) (each f xs) (each f m))
 
 -- one more of a run
+pub keep-each : {A B : Type 0} (p : B → Bool) (f : A → List B) (l : List A) → keep p (each f l) ≡ each (λ x. keep p (f x)) l
+keep-each p f [] = refl
+keep-each p f (x ∷ xs) = keep-append p (f x) (each f xs) ∙ ap (λ (m : List _). keep p (f x) ++ m) (keep-each p f xs)
+
 pub each-more : {A : Type 0} (f : ℕ → List A) (k : ℕ) → each f (range 0 (k + 1)) ≡ each f (range 0 k) ++ f k
 each-more f k =
     ap (λ (n : ℕ). each f (range 0 n)) (add-one k)

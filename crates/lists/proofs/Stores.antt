@@ -10,7 +10,7 @@ use lib.Dec.{eqb}
 use lib.ListN.{length, getD, drop, set, replicate, length-set, length-append, length-replicate, length-drop, getD-replicate, List·getD-append}
 use lib.Seq.{sets, sets-eq, drop-at, drop-set-lt, getD-set-same, getD-set-other}
 use borrow.Author.Tests.{eqb-true, eqb-false}
-use Rattle.lists.specs.Lists.{each, isIn, over, stored, cleared}
+use Rattle.lists.specs.Lists.{each, isIn, over, stored, cleared, Beyond}
 use Rattle.lists.proofs.Every.{All, each-length}
 use Rattle.lists.proofs.Runs.{each-append}
 
@@ -79,6 +79,24 @@ module _ (n : ℕ) (l : List ℕ) where
 
   pub cleared-length : n ≤ length l → length (cleared n l) ≡ length l
   cleared-length h = length-append (replicate n 0) (drop n l) ∙ omega (arith, length-replicate {A = ℕ} n 0, length-drop n l)
+
+-- ── what is left past a front ──
+
+pub beyond-refl : (n : ℕ) (l : List ℕ) → Beyond n l l
+beyond-refl n l = record { same-length = refl; rest = refl }
+
+pub beyond-trans : {n : ℕ} {a b c : List ℕ} → Beyond n a b → Beyond n b c → Beyond n a c
+beyond-trans p q = record { same-length = q .same-length ∙ p .same-length; rest = q .rest ∙ p .rest }
+
+pub beyond-set : (n : ℕ) (l : List ℕ) (i v : ℕ) → i < n → Beyond n l (set l i v)
+beyond-set n l i v h = record { same-length = length-set l i v; rest = drop-set-lt n l i v h }
+
+pub beyond-cleared : (n : ℕ) (l : List ℕ) → n ≤ length l → Beyond n l (cleared n l)
+beyond-cleared n l h = record { same-length = cleared-length n l h; rest = cleared-rest n l }
+
+-- a clear leaves what it would have left before
+pub clear-beyond : (n : ℕ) (l m : List ℕ) → Beyond n l m → cleared n m ≡ cleared n l
+clear-beyond n l m b = ap (λ (r : List ℕ). replicate n 0 ++ r) (b .rest)
 
 -- ── straight-line code ──
 

@@ -1,4 +1,5 @@
 -- Functions on lists, and tests that compute. Assumes nothing.
+use mathlib.Core.Path.{_≡_}
 use mathlib.Core.Bool.{Bool, true, false, cond, _&&_, _||_}
 use mathlib.Core.List.{List, [], _∷_, _++_}
 use Prim.Native.Nat.{ℕ, zero, suc}
@@ -62,3 +63,8 @@ stored v (e ∷ es) l = stored v es (set l e v)
 -- the first n numbers of a list are 0, the rest as it was
 abbrev pub cleared : ℕ → List ℕ → List ℕ
 cleared n old = replicate n 0 ++ drop n old
+
+-- l is as l₀ was past the first n
+pub record Beyond (n : ℕ) (l₀ l : List ℕ) : Type 0 where
+  pub same-length : length l ≡ length l₀
+  pub rest : drop n l ≡ drop n l₀

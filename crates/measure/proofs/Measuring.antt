@@ -7,17 +7,18 @@ use native.Mathlib.Omega.{arith}
 use lib.Dec.{T}
 use lib.ListN.{length, drop, replicate, length-map}
 use lib.Seq.{drop-at}
-use Rattle.lists.specs.Lists.{range, keep, each, isIn, rank, over, cleared}
+use Rattle.lists.specs.Lists.{range, keep, each, isIn, rank, over, cleared, Beyond}
 use Rattle.lists.proofs.Every.{All, in-all, all-in}
 use Rattle.lists.proofs.Closure.{keep-same}
 use Rattle.lists.proofs.Runs.{length-along}
+use Rattle.lists.proofs.Stores.{clear-beyond}
 use Rattle.paper.specs.declared.Sizes.{Sizes}
 use Rattle.paper.specs.Lattice.{Lattice, cubes, visited}
 use Rattle.paper.specs.Sheet.{cubeEdges, vertexEdges, numbered, sheetBy, sheetOf}
 use Rattle.paper.specs.Room.{needed, neededSlots}
 use Rattle.paper.specs.Within.{Sized}
 use Rattle.paper.proofs.Listing.{parts, sheet-edges, sheet-edges-lt}
-use Rattle.flood.specs.Flooded.{wordsOf, Beyond}
+use Rattle.flood.specs.Flooded.{wordsOf}
 use Rattle.survey.specs.Marks.{marks, usedOf, edgesUpto, trianglesUpto, numberIn}
 use Rattle.measure.specs.declared.Counts.{Counts}
 use Rattle.measure.specs.Measured.{slotsOf, Measured}
@@ -73,9 +74,6 @@ module _ (L : Lattice) (s : Sized (L .size)) (start : ℕ) (words w₀ : List �
   visits-counted = sym (parts L start .visits)
 
 -- ── clearing undoes all of it ──
-
-pub clear-beyond : (n : ℕ) (l m : List ℕ) → Beyond n l m → cleared n m ≡ cleared n l
-clear-beyond n l m b = ap (λ (r : List ℕ). replicate n 0 ++ r) (b .rest)
 
 clear-front : (n : ℕ) (front l m : List ℕ) → length front ≡ n → m ≡ over front l → cleared n m ≡ cleared n l
 clear-front n front l m h e =

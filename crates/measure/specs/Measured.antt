@@ -5,11 +5,11 @@ use mathlib.Core.List.{List, map}
 use Prim.Native.Nat.{ℕ, _+_}
 use lib.ListN.{length}
 use Rattle.paper.specs.Room.{neededSlots}
-use Rattle.lists.specs.Lists.{range, isIn, rank, over}
+use Rattle.lists.specs.Lists.{range, isIn, rank, over, Beyond}
 use Rattle.paper.specs.declared.Sizes.{Sizes}
 use Rattle.paper.specs.Lattice.{Lattice, cubes, visited}
 use Rattle.paper.specs.Sheet.{Sheet, sheetOf}
-use Rattle.flood.specs.Flooded.{wordsOf, Beyond}
+use Rattle.flood.specs.Flooded.{wordsOf}
 use Rattle.measure.specs.declared.Counts.{Counts}
 
 -- the slots: one more than the vertex number at each edge that has a vertex, 0 at the others

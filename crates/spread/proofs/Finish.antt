@@ -8,7 +8,8 @@ use native.Mathlib.Omega.{arith}
 use lib.Dec.{T, eqb, ltb, ltb→lt, lt→ltb}
 use lib.Count.{ones}
 use lib.ListN.{length, getD, length-append}
-use Rattle.lists.specs.Lists.{range, keep, consIf, each, isIn}
+use Rattle.lists.proofs.Stores.{beyond-trans}
+use Rattle.lists.specs.Lists.{range, keep, consIf, each, isIn, Beyond}
 use Rattle.lists.specs.Reach.{Reach, step, reached}
 use Rattle.lists.proofs.Member.{or-cases, or-left, or-right, and-both, and-left, and-right, any-append, any-each, any-in, in-any, in-consIf, consIf-in, in-keep, in-range, range-in}
 use Rattle.lists.proofs.Runs.{range-join, keep-append}
@@ -18,8 +19,8 @@ use Rattle.bits.proofs.Bits.{word-is}
 use Rattle.bits.proofs.Counts.{ones-from}
 use Rattle.spread.specs.Plan.{Plan}
 use Rattle.spread.specs.Flow.{Flow}
-use Rattle.spread.specs.Flooded.{Beyond, cell, stepsFrom, steps, room, Flooded}
-use Rattle.spread.proofs.Laws.{lit, beyond-trans}
+use Rattle.spread.specs.Flooded.{cell, stepsFrom, steps, room, Flooded}
+use Rattle.spread.proofs.Laws.{lit}
 use Rattle.spread.proofs.Going.{Ground, Turn, all-done, landed, left-across}
 
 pub cell-row : (r x : ℕ) → x < 64 → cell r x / 64 ≡ r

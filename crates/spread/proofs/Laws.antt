@@ -9,7 +9,8 @@ use native.Mathlib.Decide.{ℕ-discrete}
 use native.Mathlib.Numerals.{add-one}
 use native.Mathlib.Omega.{arith}
 use lib.Dec.{eqb}
-use Rattle.lists.specs.Lists.{range, keep, consIf}
+use Rattle.lists.proofs.Stores.{beyond-refl, beyond-trans, beyond-set}
+use Rattle.lists.specs.Lists.{range, keep, consIf, Beyond}
 use lib.Bits.{bitAnd, bitOr, or-add-and, and-le-l}
 use lib.Count.{ones, ones-le}
 use lib.ListN.{length, getD, set, length-set}
@@ -18,7 +19,6 @@ use borrow.Author.Tests.{eqb-true, eqb-false}
 use Rattle.bits.specs.Words.{On, less}
 use Rattle.bits.proofs.Places.{on-zero, ones-zero, on-or-left, on-or-right, or-on}
 use Rattle.spread.specs.Flow.{Flow, flow, wait, sends, blank, one-if-zero, Roomy}
-use Rattle.spread.specs.Flooded.{Beyond}
 
 -- a store, read at its own place and at another
 pub set-cases : (l : List ℕ) (i v j : ℕ) → i < length l
@@ -30,15 +30,6 @@ set-cases l i v j h = go (ℕ-discrete j i)
     go (no q) = inr (q, getD-set-other l i j v 0 q)
 
 -- ── what is kept past the first n ──
-
-pub beyond-refl : (n : ℕ) (l : List ℕ) → Beyond n l l
-beyond-refl n l = record { same-length = refl; rest = refl }
-
-pub beyond-trans : {n : ℕ} {a b c : List ℕ} → Beyond n a b → Beyond n b c → Beyond n a c
-beyond-trans p q = record { same-length = q .same-length ∙ p .same-length; rest = q .rest ∙ p .rest }
-
-pub beyond-set : (n : ℕ) (l : List ℕ) (i v : ℕ) → i < n → Beyond n l (set l i v)
-beyond-set n l i v h = record { same-length = length-set l i v; rest = drop-set-lt n l i v h }
 
 -- ── counting ──
 

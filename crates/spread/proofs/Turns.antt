@@ -6,6 +6,7 @@ use native.Mathlib.Omega.{arith}
 use lib.Count.{ones}
 use lib.Bits.{bitOr}
 use lib.ListN.{length, getD, set}
+use Rattle.lists.specs.Lists.{Beyond}
 use Rattle.lists.specs.Reach.{here}
 use Rattle.paper.specs.declared.Sizes.{Sizes}
 use Rattle.paper.specs.Within.{Sized}
@@ -17,7 +18,7 @@ use Rattle.spread.specs.Along.{Filled}
 use Rattle.spread.specs.Plan.{Plan}
 use Rattle.spread.specs.Flow.{Flow, flow, wait, sends, Roomy}
 use Rattle.spread.specs.Ways.{gateBy, gateAt, doorBy, besideBy, doorAt, besideAt, words, rowsOf, isRow, RowIn, planOf}
-use Rattle.spread.specs.Flooded.{Beyond, Empty, cell, room, Flooded}
+use Rattle.spread.specs.Flooded.{Empty, cell, room, Flooded}
 use Rattle.spread.proofs.Laws.{lit, blank-le, Kept, wait-kept}
 use Rattle.spread.proofs.Going.{Ground, Turn, turn-start, turn-row, turn-roomy, turn-count, turn-bound, turn-less, turn}
 use Rattle.spread.proofs.Finish.{Reached, ground, finished, emptied}

@@ -6,7 +6,7 @@ use Prim.Native.Nat.{ℕ, suc, _+_, _-_, _*_, _/_, _%_, _^_, _≤_, _<_}
 use lib.Dec.{ltb}
 use lib.IntN.{ℤ}
 use lib.ListN.{length, getD, drop}
-use Rattle.lists.specs.Lists.{range, consIf, each}
+use Rattle.lists.specs.Lists.{range, consIf, each, Beyond}
 use Rattle.lists.specs.Reach.{Reach, reached}
 use Rattle.paper.specs.declared.Sizes.{Sizes}
 use Rattle.paper.specs.Lattice.{Lattice, lattice, visited}
@@ -14,11 +14,6 @@ use Rattle.bits.specs.Words.{bit, On}
 use Rattle.rows.specs.Rows.{HasRows, HasCubes}
 use Rattle.spread.specs.Plan.{Plan}
 use Rattle.spread.specs.Ways.{words, rowsOf}
-
--- l is as l₀ was past the first n
-pub record Beyond (n : ℕ) (l₀ l : List ℕ) : Type 0 where
-  pub same-length : length l ≡ length l₀
-  pub rest : drop n l ≡ drop n l₀
 
 -- the first n words are there, and are 0
 pub record Empty (n : ℕ) (l : List ℕ) : Type 0 where

@@ -3,11 +3,11 @@ use mathlib.Core.Path.{_≡_, sym, _∙_}
 use mathlib.Core.List.{List}
 use Prim.Native.Nat.{ℕ}
 use denote.Ref.{now}
+use Rattle.lists.specs.Lists.{Beyond}
+use Rattle.lists.proofs.Stores.{beyond-refl}
 use Rattle.paper.specs.Lattice.{Lattice, lattice}
 use Rattle.paper.specs.Room.{needed, neededSlots, Work, work}
 use Rattle.paper.specs.File.{fileV, fileT, fileVertices, fileTriangles}
-use Rattle.flood.specs.Flooded.{Beyond}
-use Rattle.flood.proofs.Laws.{beyond-refl}
 use Rattle.records.specs.Records.{firstBadIn as firstBadRecord}
 use Rattle.triples.specs.Triples.{firstBadIn as firstBadTriple}
 use Rattle.checker.proofs.Answers.{answer-17, answer-18, answer-19-vertices, answer-19-triangles, answer-0, slots-beyond, seen-beyond, all-named}

@@ -5,16 +5,17 @@ use Prim.Native.Nat.{ℕ, suc, _+_, _<_, _-_, _%_}
 use native.Mathlib.Omega.{arith}
 use lib.ListN.{getD}
 use denote.Ref.{now}
-use Rattle.lists.specs.Lists.{cleared}
+use Rattle.lists.specs.Lists.{cleared, Beyond}
 use Rattle.lists.specs.Reach.{here}
+use Rattle.lists.proofs.Stores.{beyond-trans}
 use Rattle.paper.specs.declared.Place.{Place}
 use Rattle.paper.specs.Lattice.{Lattice, lattice, cubes, cubeNo, cubeAt, Visited}
 use Rattle.paper.proofs.Numbers.{cube-back}
 use Rattle.sides.specs.Pattern.{patternAt, stepTo}
 use Rattle.sides.proofs.Laws.{pattern-lt}
 use Rattle.flood.specs.Flow.{Flow, flow, blank, push, pushes, Roomy}
-use Rattle.flood.specs.Flooded.{wordOf, Beyond, Flooded}
-use Rattle.flood.proofs.Laws.{beyond-trans, push-kept-of}
+use Rattle.flood.specs.Flooded.{wordOf, Flooded}
+use Rattle.flood.proofs.Laws.{push-kept-of}
 use Rattle.flood.proofs.Going.{Turn, roomy-start, beyond-cleared, turn-start, turn-roomy, turn-cube, turn-word, turn-less, turn}
 use Rattle.flood.proofs.Finish.{word-some, visit-on, finished, on-words}
 use Rattle.flood.proofs.flood.Statement.{statement}

@@ -6,10 +6,12 @@ use Prim.Native.Nat.{ℕ, suc, _+_, _*_, _<_, _-_, _^_}
 use native.Mathlib.Omega.{arith}
 use lib.ListN.{getD, set, length-set}
 use denote.Ref.{now}
+use Rattle.lists.proofs.Stores.{beyond-refl, beyond-trans}
+use Rattle.lists.specs.Lists.{Beyond}
 use Rattle.spread.specs.Flow.{flow, Roomy}
 use Rattle.spread.specs.Ways.{words, rowsOf, isRow, RowIn, planOf}
-use Rattle.spread.specs.Flooded.{Beyond, Empty, cell, room, Flooded}
-use Rattle.spread.proofs.Laws.{lit, beyond-refl, beyond-trans}
+use Rattle.spread.specs.Flooded.{Empty, cell, room, Flooded}
+use Rattle.spread.proofs.Laws.{lit}
 use Rattle.spread.proofs.Ways.{row-lt, row-quad, row-le, rows-some, words-le}
 use Rattle.spread.proofs.Turns.{Flooding, first-kept, flooding-start, at-row, at-roomy, seen-le, less-left, flooding-more, flooding-done, due-done}
 use Rattle.spread.proofs.flood.Statement.{statement}
