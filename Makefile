@@ -10,7 +10,7 @@ PROGRAMS = target/native/cargo/release
 LIBRARY = target/native/libcabi.a
 endif
 
-.PHONY: help tool install demo test host trials bench fuzz memory page mutants viewers
+.PHONY: help tool install demo test host trials bench peers stack reads fuzz memory page mutants viewers
 
 help:
 	@sed -n 's/^## //p' Makefile
@@ -44,6 +44,19 @@ trials: host
 ## make bench     the proved library beside a hand-written C mesher and C loops, and the audit of 10,000 sheets
 bench:
 	sh host/own.sh sh -c 'bench && sh host/audit-rate.sh'
+
+## make peers     the proved build beside VTK and scikit-image, where those are installed
+peers:
+	sh host/peers.sh $(LIBRARY)
+
+## make stack     how much stack each function of the library takes
+stack:
+	sh host/own.sh stack
+
+## make reads     how often a build and a check read samples, counted by valgrind
+reads:
+	command -v valgrind >/dev/null || { apt-get update -qq && apt-get install -y -qq valgrind; }
+	sh host/own.sh sh host/reads.sh
 
 ## make page      an audit's page opened in a browser (Debian's chromium), as a picture
 page: tool

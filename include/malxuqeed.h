@@ -11,7 +11,7 @@
  *
  * Lent work room may hold anything on entry. After a success, and after 6, 7 (building), 17, 18 and 19, its needed front is
  * all 0; after any other refusal it is as it was. No refusal writes to output, and nothing beyond what is written changes.
- * The library takes less than 12 KB of stack and no memory of its own. */
+ * The library takes up to 132 KB of stack and no memory of its own. */
 #ifndef MALXUQEED_H
 #define MALXUQEED_H
 

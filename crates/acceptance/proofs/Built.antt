@@ -1,38 +1,34 @@
 -- What a build and then a write make is accepted. Assumes nothing.
 use mathlib.Core.Path.{_≡_, sym, ap, subst, _∙_}
-use mathlib.Core.List.{List, [], _∷_, _++_, map, map-map}
-use Prim.Native.Nat.{ℕ, zero, suc, _+_, _*_, _<_}
+use mathlib.Core.List.{List, [], _∷_, map}
+use Prim.Native.Nat.{ℕ, _*_, _<_}
 use native.Mathlib.Omega.{arith}
-use lib.IntN.{ℤ, pos, natAbs}
-use lib.ListN.{length, getD, take, drop, List·getD-append}
-use lib.Seq.{take-all, take-append-seam, take-append-le, drop-append-add}
+use lib.IntN.{ℤ, pos}
+use lib.ListN.{length, take, drop, List·getD-append}
+use lib.Seq.{take-all, take-append-le}
 use mir.Syntax.{w32}
 use mir.Val.{SFits}
-use Rattle.lists.specs.Lists.{range, count, each, over}
-use Rattle.lists.proofs.Every.{All, all-at, all-getD, all-each, map-same-in}
-use Rattle.lists.proofs.Runs.{along-list}
-use Rattle.lists.proofs.Within.{members, below}
+use Rattle.lists.specs.Lists.{range, count, over}
+use Rattle.lists.proofs.Every.{All, all-getD, all-each}
 use Rattle.paper.specs.declared.Start.{Start}
 use Rattle.paper.specs.declared.Verdict.{Verdict}
 use Rattle.paper.specs.declared.Built.{Built}
 use Rattle.paper.specs.declared.Wrote.{Wrote}
 use Rattle.paper.specs.Lattice.{Lattice}
-use Rattle.paper.specs.Tables.{tri}
 use Rattle.paper.specs.Sheet.{Sheet, edgeNumbers, sheetOf, vertexRecord, vertexWords, triangleWords}
 use Rattle.paper.specs.Room.{Lengths, outputAfter}
-use Rattle.paper.specs.Within.{Sized, Below}
+use Rattle.paper.specs.Within.{Sized}
 use Rattle.paper.specs.Tests.{judge}
 use Rattle.paper.specs.Build.{Lent, startOf, sampleTests, buildNumber, counted, built, lentAfter, Builds}
 use Rattle.paper.specs.File.{contentOf, fileBytes, writeVerdict, Writes}
-use Rattle.paper.specs.Check.{recordOf, edgeOf, cornerOf, triangleOf, sameNumbers, turned, checked}
-use Rattle.paper.proofs.Listing.{named, parts, sheet-edges-lt, sheet-positioned, indices-below, indices-name, record-length, vertex-words, vertex-words-length, triangle-words-length}
+use Rattle.paper.specs.Check.{recordOf, triangleOf, sameNumbers, turned, checked}
+use Rattle.paper.proofs.Listing.{sheet-edges-lt, sheet-positioned, vertex-words, vertex-words-length, triangle-words-length}
 use Rattle.paper.proofs.Crossing.{Positioned}
-use Rattle.tetra.proofs.Laws.{three}
 use Rattle.lattice.proofs.Laws.{samples-few}
 use Rattle.codec.specs.Words.{Words}
 use Rattle.layout.proofs.Passing.{first-same}
 use Rattle.paper.proofs.Passing.{sample-tests, built-number, built-zero}
-use Rattle.paper.proofs.Records.{record-edge}
+use Rattle.holding.proofs.Words.{records-are, triangles-are}
 use Rattle.sheetfile.specs.Taken.{Taken}
 use Rattle.sheetfile.specs.Trips.{Holds}
 use Rattle.sheetfile.proofs.Answers.{taken, taken-verdict}
@@ -40,27 +36,6 @@ use Rattle.sheetfile.proofs.Written.{written}
 use Rattle.sheetfile.proofs.RoundTrips.{written-bytes}
 use Rattle.acceptance.specs.Holding.{fileRecords, fileTriples, Holding}
 use Rattle.acceptance.proofs.Exact.{accepted-exactly}
-
--- ── lists ──
-
--- along a run as long as a list
-run-is : {A B : Type 0} (g : ℕ → B) (f : A → B) (l : List A) (d : A) → ((i : ℕ) → i < length l → g i ≡ f (getD l i d)) → map g (range 0 (length l)) ≡ map f l
-run-is g f l d h =
-    map-same-in g (λ i. f (getD l i d)) (range 0 (length l)) (members (range 0 (length l)) (λ i m. h i (below (length l) i m)))
-    ∙ (sym (map-map f (λ i. getD l i d) (range 0 (length l))) ∙ ap (map f) (along-list l d))
-
--- the four numbers of record i of records one behind the other
-record-at : (L : Lattice) (es : List ℕ) (i : ℕ) → i < length es → recordOf (each (vertexRecord L) es) i ≡ vertexRecord L (getD es i 0)
-unfolding recordOf
-record-at L [] i h = absurd (omega arith)
-record-at L (e ∷ es) zero h =
-    let r = vertexRecord L e in
-    ap (λ (n : ℕ). take n (r ++ each (vertexRecord L) es)) (sym (record-length L e)) ∙ take-append-seam r (each (vertexRecord L) es)
-record-at L (e ∷ es) (suc i) h =
-    let r = vertexRecord L e in
-    let q : 4 * suc i ≡ length r + 4 * i = omega (arith, record-length L e) in
-    ap (take 4) (ap (λ (n : ℕ). drop n (r ++ each (vertexRecord L) es)) q ∙ drop-append-add r (each (vertexRecord L) es) (4 * i))
-    ∙ record-at L es i (omega arith)
 
 -- ── the words of a sheet ──
 
@@ -79,29 +54,6 @@ module _ (L : Lattice) (s : Sized (L .size)) (start : ℕ) where
 
   abbrev tw : List ℕ
   tw = triangleWords S
-
-  record-of : (i : ℕ) → i < nv → recordOf vw i ≡ vertexRecord L (getD (S .edges) i 0)
-  record-of i h = ap (λ (l : List ℤ). recordOf l i) (vertex-words L start) ∙ record-at L (S .edges) i h
-
-  records-are : map (recordOf vw) (range 0 nv) ≡ S .records
-  records-are = run-is (recordOf vw) (vertexRecord L) (S .edges) 0 record-of ∙ sym (parts L start .records)
-
-  edge-at : (k : ℕ) → k < nv → natAbs (edgeOf vw k) ≡ getD (S .edges) k 0
-  edge-at k h = ap natAbs (record-edge L vw k (getD (S .edges) k 0) (record-of k h))
-
-  triangles-are : map (triangleOf vw tw) (range 0 nt) ≡ S .byEdge
-  unfolding triangleOf cornerOf triangleWords named
-  triangles-are =
-      run-is (triangleOf vw tw) (named (λ i. getD (S .edges) i 0)) (S .triangles) (tri 0 0 0)
-      (λ i h.
-      let t = getD (S .triangles) i (tri 0 0 0) in
-      let w = three (S .triangles) i h in
-      let b = all-at (Below nv) (S .triangles) (tri 0 0 0) (indices-below L s start) i h in
-      let x = ap (λ (n : ℕ). natAbs (edgeOf vw n)) (w .a) ∙ edge-at (t .a) (b .a) in
-      let y = ap (λ (n : ℕ). natAbs (edgeOf vw n)) (w .b) ∙ edge-at (t .b) (b .b) in
-      let z = ap (λ (n : ℕ). natAbs (edgeOf vw n)) (w .c) ∙ edge-at (t .c) (b .c) in
-      λ j. tri (x j) (y j) (z j))
-      ∙ indices-name L s start
 
   -- each is a signed 32-bit number
   words-fit : Words vw
@@ -124,8 +76,8 @@ module _ (L : Lattice) (s : Sized (L .size)) (start : ℕ) where
   holding : (bs : List ℕ) → Holds bs (L .size) nv nt vw tw → Holding L start bs
   unfolding fileRecords fileTriples
   holding bs h = record {
-    vertices = λ r. ap (count (sameNumbers r)) ((λ j. map (recordOf (h .vertices j)) (range 0 (h .count-v j))) ∙ records-are);
-    triangles = λ t. ap (count (turned t)) ((λ j. map (triangleOf (h .vertices j) (h .triangles j)) (range 0 (h .count-t j))) ∙ triangles-are);
+    vertices = λ r. ap (count (sameNumbers r)) ((λ j. map (recordOf (h .vertices j)) (range 0 (h .count-v j))) ∙ records-are L s start);
+    triangles = λ t. ap (count (turned t)) ((λ j. map (triangleOf (h .vertices j) (h .triangles j)) (range 0 (h .count-t j))) ∙ triangles-are L s start);
   }
 
 -- ── build, then write, then check ──

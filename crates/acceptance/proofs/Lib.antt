@@ -1,4 +1,3 @@
 -- Theorems of acceptance.
-pub mod Alike
 pub mod Exact
 pub mod Built

@@ -12,7 +12,7 @@ use Rattle.paper.specs.Lattice.{Lattice, cubes}
 use Rattle.paper.specs.Tests.{verdict, judge}
 use Rattle.paper.specs.Room.{needed, neededSlots, Work}
 use Rattle.paper.specs.File.{fileV, fileT, fileVertices, fileTriangles}
-use Rattle.measure.specs.declared.Counts.{Counts}
+use Rattle.tally.specs.declared.Counts.{Counts}
 use Rattle.records.specs.Records.{edgeAt, firstBadIn as firstBadRecord, slotsAfter}
 use Rattle.records.proofs.Laws.{after-length as slots-length}
 use Rattle.records.proofs.Meaning.{edge-below, first-rest as slots-rest}

@@ -1,5 +1,4 @@
 -- Laws of a check.
 pub mod Answers
-pub mod Complete
 pub mod Spots
 pub mod Verdicts

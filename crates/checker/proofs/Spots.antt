@@ -25,13 +25,12 @@ use Rattle.lists.proofs.Within.{nth-in, in-list, in-run}
 use Rattle.lists.proofs.Counts.{sum, part-le, one-member, count-some, count-each, one-place}
 use Rattle.pairing.proofs.Turned.{is-turned, turned-is, back}
 use Rattle.tetra.specs.Cut.{rowBy, rowTriangles, trianglesBy}
-use Rattle.flood.specs.Flooded.{wordOf}
-use Rattle.survey.specs.Marks.{baseOf}
+use Rattle.triples.specs.Words.{baseOf, wordOf}
 use Rattle.lists.proofs.Firsts.{first-holds}
 use Rattle.triples.specs.Triples.{holder, isAt, placeBy, placeIn, placeOf, Sure}
 use Rattle.triples.proofs.Laws.{place-word}
 use Rattle.triples.proofs.Meaning.{at-row, placed, cube-worded}
-use Rattle.checker.proofs.Complete.{one-alike}
+use Rattle.holding.proofs.Complete.{one-alike}
 
 -- ── one place a triangle ──
 

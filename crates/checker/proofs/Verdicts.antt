@@ -2,19 +2,19 @@
 use mathlib.Core.Path.{_≡_, refl, sym, ap, subst, _∙_}
 use mathlib.Core.Bool.{Bool, true, false, cond, _&&_}
 use mathlib.Core.List.{List, _++_}
-use Prim.Native.Nat.{ℕ, _<_}
+use Prim.Native.Nat.{ℕ, _≤_, _<_}
 use native.Mathlib.Omega.{arith}
 use lib.Dec.{eqb}
 use lib.IntN.{ℤ}
-use lib.ListN.{length, getD, drop, replicate, length-map}
+use lib.ListN.{length, getD, drop, length-map}
 use borrow.Author.Tests.{eqb-true}
-use Rattle.lists.specs.Lists.{range, first, isIn, cleared, Beyond}
+use Rattle.lists.specs.Lists.{range, each, first, isIn, over, cleared}
 use Rattle.paper.specs.declared.Sizes.{Sizes}
 use Rattle.paper.specs.declared.Start.{Start}
 use Rattle.paper.specs.declared.Verdict.{Verdict}
 use Rattle.paper.specs.Lattice.{Lattice, cubes, visited}
-use Rattle.paper.specs.Sheet.{Sheet, vertexRecord, numbered, sheetOf}
-use Rattle.paper.specs.Room.{Work, work, Lengths, lengths, needed, neededSlots, clears, clean, workAfter}
+use Rattle.paper.specs.Sheet.{Sheet, vertexRecord, numbered as byRank, sheetOf}
+use Rattle.paper.specs.Room.{Work, work, Lengths, lengths, neededSlots, clears, clean, workAfter}
 use Rattle.paper.specs.Within.{Sized, Full, Roomy}
 use Rattle.paper.specs.Tests.{Test, verdict, judge}
 use Rattle.paper.specs.Build.{startOf, sampleTests}
@@ -24,61 +24,63 @@ use Rattle.paper.proofs.Judged.{Numbered, numbered-both, judge-past, judge-stop
 use Rattle.paper.proofs.Tested.{recorded, listed}
 use Rattle.paper.proofs.Passing.{sample-numbered, file-numbered, work-kept, work-cleared}
 use Rattle.paper.proofs.Listing.{parts, sheet-edges-lt}
-use Rattle.flood.specs.Flooded.{wordOf}
+use Rattle.spread.specs.Flooded.{Stands}
 use Rattle.layout.specs.Laid.{LaidOut}
-use Rattle.measure.specs.declared.Counts.{Counts}
-use Rattle.measure.specs.Measured.{Measured}
-use Rattle.measure.proofs.Words.{word-at}
-use Rattle.lists.proofs.Stores.{cleared-at, cleared-rest, clear-beyond}
-use Rattle.measure.proofs.Measuring.{undone}
-use Rattle.measure.proofs.Crossed.{slot-used, all-cross}
+use Rattle.tally.specs.declared.Counts.{Counts}
+use Rattle.tally.specs.Tally.{Counted}
+use Rattle.dots.specs.Dots.{edgesBy, numbered, Crossed}
+use Rattle.dots.specs.Slots.{slotsOf}
+use Rattle.dots.proofs.Meaning.{edges-by, edges-crossed, slots-used}
+use Rattle.dots.proofs.Slots.{slot-used}
+use Rattle.records.proofs.Slots.{all-cross}
+use Rattle.triples.specs.Words.{wordOf, wordsBy}
+use Rattle.triples.proofs.Words.{words-by}
 use Rattle.records.specs.Records.{firstBadIn as firstBadRecord}
 use Rattle.lists.proofs.Firsts.{first-before}
 use Rattle.records.proofs.Meaning.{first-bad-is as bad-record-is}
 use Rattle.triples.specs.Triples.{firstBadIn as firstBadTriple}
 use Rattle.triples.proofs.Meaning.{first-bad-is as bad-triple-is}
-use Rattle.checker.specs.Checked.{Comparable, foundTests, lastTests}
-use Rattle.checker.proofs.Complete.{complete-is}
+use Rattle.checker.specs.Checked.{Comparable, foundTests, lastTests, Accepts}
+use Rattle.holding.proofs.Complete.{complete-is}
+use Rattle.patterns.specs.Table.{stepsBy, Tabled}
+use Rattle.tiles.specs.Tiles.{source, tilesBy}
+use Rattle.ordered.proofs.Meaning.{same-passes}
 use Rattle.checker.proofs.Spots.{sure}
 
 -- ── tests 17 to 19 ──
 
--- words, waiting and slots as measuring leaves them, and blank the cleared waiting list
-module _ (L : Lattice) (s : Sized (L .size)) (start : ℕ) (h : start < cubes (L .size)) (before : Work) (words waiting slots : List ℕ) (r : Counts)
-    (m : Measured L start (before .words) (before .waiting) (before .slots) words waiting slots r) (blank : List ℕ)
-    (e : blank ≡ cleared (needed (L .size)) waiting) where
+-- words are those of the cubes visited from the start, slots are cleared and then numbered, and blank is a waiting list with an empty front
+module _ (L : Lattice) (full : Full L) (start : ℕ) (rows vis : List ℕ) (at : Stands L start rows vis) (slots s₀ blank : List ℕ)
+    (long : neededSlots (L .size) ≤ length s₀) (e : slots ≡ numbered 1 (edgesBy (L .size) rows vis) (cleared (neededSlots (L .size)) s₀))
+    (blank-at : (k : ℕ) → k < cubes (L .size) → getD blank k 0 ≡ 0) where
   abbrev z : Sizes
   z = L .size
 
   abbrev S : Sheet
   S = sheetOf L start
 
+  abbrev words : List ℕ
+  words = wordsBy z rows vis
+
   words-are : (k : ℕ) → k < cubes z → getD words k 0 ≡ cond (isIn (visited L start) k) (wordOf L k) 0
-  words-are = word-at L start words (before .words) (m .marked)
+  words-are = words-by L rows (at .sides) (visited L start) vis (at .cubes) (full .sized)
 
-  blank-at : (k : ℕ) → k < cubes z → getD blank k 0 ≡ 0
-  blank-at k l = ap (λ (x : List ℕ). getD x k 0) e ∙ cleared-at (needed z) waiting k l
+  slots-are : slots ≡ over (slotsOf z (S .edges)) s₀
+  slots-are = e ∙ slots-used L (full .sized) start rows vis (at .sides) (at .cubes) s₀ long
 
-  pub comparable : Full L → (bs : List ℕ) → LaidOut bs → Comparable L bs (work words blank slots)
-  comparable full bs laid = record {
+  pub comparable : (bs : List ℕ) → LaidOut bs → Comparable L bs (work words blank slots)
+  comparable bs laid = record {
     full = full;
     laid = laid;
-    crossing = all-cross L s start slots (before .slots) (m .numbered);
+    crossing =
+        all-cross L (S .edges) slots s₀ slots-are
+        (subst (Crossed L) (edges-by L (full .sized) start rows vis (at .sides) (at .cubes))
+        (edges-crossed L (full .sized) start rows vis (at .sides) (at .cubes)));
     small = record { at = λ k l. omega (arith, blank-at k l) };
-    sure = sure L s start h words words-are;
+    sure = sure L (full .sized) start (at .below) words words-are;
   }
 
-  -- what is left of a comparison is cleared to what measuring found
-  pub cleaned : (waiting′ slots′ : List ℕ) → Beyond (needed z) blank waiting′ → Beyond (neededSlots z) slots slots′ → clean z (work words waiting′ slots′) ≡ clean z before
-  cleaned waiting′ slots′ b c =
-      let u = undone L start (before .words) (before .waiting) (before .slots) words waiting slots r m in
-      let q =
-      clear-beyond (needed z) blank waiting′ b
-      ∙ (ap (λ (l : List ℕ). replicate (needed z) 0 ++ l) (ap (drop (needed z)) e ∙ cleared-rest (needed z) waiting) ∙ u .1) in
-      let n = clear-beyond (neededSlots z) slots slots′ c ∙ u .2 in
-      λ i. work (u .0 i) (q i) (n i)
-
-  module _ (room : Roomy z (lengths (work words blank slots))) (bs : List ℕ) where
+  module _ (room : Roomy z (lengths (work words blank slots))) (bs : List ℕ) (r : Counts) (counts : Counted z rows vis r) where
     abbrev vs : List ℤ
     vs = fileVertices bs
 
@@ -92,23 +94,26 @@ module _ (L : Lattice) (s : Sized (L .size)) (start : ℕ) (h : start < cubes (L
     j = first (badNaming S vs ts) (fileT bs) (range 0 (fileT bs))
 
     record-is : firstBadRecord L vs slots (fileV bs) ≡ i
-    record-is = bad-record-is L S (parts L start .records) vs slots (slot-used L s start slots (before .slots) (m .numbered)) (sheet-edges-lt L start) (room .slots) (fileV bs)
+    record-is =
+        bad-record-is L S (parts L start .records) vs slots (slot-used z (S .edges) slots s₀ slots-are) (sheet-edges-lt L start) (room .slots)
+        (fileV bs)
 
     triple-is : firstBadTriple z words vs ts blank (fileT bs) ≡ j
-    triple-is = bad-triple-is L s start words words-are vs ts blank (room .waiting) blank-at (fileT bs)
+    triple-is = bad-triple-is L (full .sized) start words words-are vs ts blank (room .waiting) blank-at (fileT bs)
 
     vertices-are : r .vertices ≡ length (S .edges)
-    vertices-are = ap (λ (c : Counts). c .vertices) (m .counts)
+    vertices-are = counts .vertices (L .values) start (at .sides) (at .cubes)
 
     triangles-are : r .triangles ≡ length (S .byEdge)
     triangles-are =
-        ap (λ (c : Counts). c .triangles) (m .counts) ∙ (ap length (parts L start .triangles) ∙ length-map (S .byEdge) (numbered (S .edges)))
+        counts .triangles (L .values) start (at .sides) (at .cubes)
+        ∙ (ap length (parts L start .triangles) ∙ length-map (S .byEdge) (byRank (S .edges)))
 
     counted : i ≡ fileV bs → j ≡ fileT bs
         → (eqb (fileV bs) (r .vertices) && eqb (fileT bs) (r .triangles)) ≡ complete S vs ts (fileV bs) (fileT bs)
     counted o f =
         (λ k. eqb (fileV bs) (vertices-are k) && eqb (fileT bs) (triangles-are k))
-        ∙ complete-is L s start h vs ts (fileT bs)
+        ∙ complete-is L (full .sized) start (at .below) vs ts (fileT bs)
         (λ k l. listed S vs ts k (first-before (badNaming S vs ts) (fileT bs) k (subst (λ (n : ℕ). k < n) (sym f) l))) (fileV bs)
         (λ k l. recorded (vertexRecord L) S vs (parts L start .records) k (first-before (badRecord S vs) (fileV bs) k (subst (λ (n : ℕ). k < n) (sym o) l)))
 
@@ -128,6 +133,16 @@ module _ (L : Lattice) (s : Sized (L .size)) (start : ℕ) (h : start < cubes (L
         go true true e f = ap (λ (x : Bool). cond x (verdict 0 0) (verdict 19 0)) (counted (eqb-true i (fileV bs) e) (eqb-true j (fileT bs) f))
         go true false e f = refl
         go false b e f = refl
+
+-- a file with the numbers that rows give, in their order, passes them
+pub in-order-passes : (L : Lattice) → Sized (L .size) → (rows vis : List ℕ) (table counts slots after bs : List ℕ)
+    → Tabled (stepsBy (L .size)) 256 table counts → neededSlots (L .size) ≤ length slots
+    → fileVertices bs ≡ each (vertexRecord L) (edgesBy (L .size) rows vis) → after ≡ numbered 0 (edgesBy (L .size) rows vis) slots
+    → fileTriangles bs ≡ tilesBy (source table counts after) (L .size) rows vis → Accepts L rows vis bs
+unfolding lastTests
+in-order-passes L s rows vis table counts slots after bs tab room v n t = record {
+  is = λ k at. sym (same-passes L s k rows vis (at .sides) (at .cubes) (at .below) table counts slots after bs tab room v n t);
+}
 
 -- ── tests one behind the other ──
 

@@ -10,17 +10,17 @@ use Rattle.paper.specs.declared.Verdict.{Verdict}
 use Rattle.paper.specs.Lattice.{Lattice, cubes}
 use Rattle.paper.specs.Room.{Work, needed, neededSlots}
 use Rattle.paper.specs.Within.{Full}
-use Rattle.paper.specs.Tests.{Test, test, testAt, judge}
+use Rattle.paper.specs.Tests.{Test, test, testAt, verdict, judge}
 use Rattle.paper.specs.Sheet.{sheetOf}
 use Rattle.paper.specs.File.{fileV, fileT, fileVertices, fileTriangles}
 use Rattle.paper.specs.Check.{sheetTests}
 use Rattle.layout.specs.Laid.{LaidOut}
-use Rattle.measure.specs.declared.Counts.{Counts}
-use Rattle.measure.specs.Crossed.{AllCross}
-use Rattle.records.specs.Records.{firstBadIn as firstBadRecord}
+use Rattle.spread.specs.Flooded.{Stands}
+use Rattle.tally.specs.declared.Counts.{Counts}
+use Rattle.records.specs.Records.{AllCross, firstBadIn as firstBadRecord}
 use Rattle.triples.specs.Triples.{Small, Sure, firstBadIn as firstBadTriple}
 
--- tests 17 to 19, by the work slices and the sheet's counts
+-- tests 17 to 19, by the words of the visited cubes, the waiting list, the slots and the sheet's counts
 unfoldable pub foundTests : Lattice → List ℕ → Counts → Work → List Test
 foundTests L bs n w =
     let nv = fileV bs in
@@ -47,3 +47,11 @@ pub record Comparable (L : Lattice) (bs : List ℕ) (w : Work) : Type 0 where
 -- tests 17 to 19
 unfoldable pub lastTests : Lattice → ℕ → List ℕ → List Test
 lastTests L start bs = drop 1 (sheetTests (L .size) (sheetOf L start) bs)
+
+-- r is what they answer, of any start from which these are the visited cubes
+pub record Answers (L : Lattice) (rows vis bs : List ℕ) (r : Verdict) : Type 0 where
+  pub is : (k : ℕ) → Stands L k rows vis → r ≡ judge (lastTests L k bs)
+
+-- the file passes them
+abbrev pub Accepts : Lattice → List ℕ → List ℕ → List ℕ → Type 0
+Accepts L rows vis bs = Answers L rows vis bs (verdict 0 0)

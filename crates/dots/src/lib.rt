@@ -1,14 +1,18 @@
 // The vertices of anchors, written by words of kinds and numbered in the slots of their edges.
+use kinds::KindWords;
 use paper::Place;
 use paper::Sizes;
 ghost use mathlib.Core.Path.{_≡_};
-ghost use Prim.Native.Nat.{_*_, _<_};
+ghost use Prim.Native.Nat.{_+_, _*_, _≤_, _<_};
 ghost use lib.ListN.{length};
 ghost use Rattle.paper.specs.Lattice.{lattice, sampleNo};
+ghost use Rattle.paper.specs.Room.{neededSlots};
 ghost use Rattle.paper.specs.Within.{Full, SampleIn};
-ghost use Rattle.dots.specs.Dots.{edgeAt, edgesAt, drawn, Draws, Crossing, Roomy};
+ghost use Rattle.dots.specs.Dots.{edgeAt, edgesAt, anyOf, anchorEdges, rowEdges, edgesOf, layerEdges, edgesBy};
+ghost use Rattle.dots.specs.Dots.{numbered, drawn, Draws, Numbers, Crossing, Crossed, Roomy};
 
-// The vertex on the edge of a kind at the anchor p, where ks has it, at place `at`; the next place is returned.
+// The vertex on the edge of a kind at the anchor p, where ks has it, gets the number `at` and the place at - first; the next number is
+// returned.
 fn put_kind(
     samples: &[i16],
     sizes: Sizes,
@@ -18,19 +22,20 @@ fn put_kind(
     kind: usize,
     slots: &mut [u32],
     vertices: &mut [i32],
+    first: usize,
     at: usize,
 ) -> usize
     requires { ⌜ Full (lattice sizes (now samples)) × SampleIn sizes p × (base ≡ 7 * sampleNo sizes p) × (kind < 7) ⌝ }
     requires { ⌜ Crossing (lattice sizes (now samples)) p ks ⌝ }
-    requires { ⌜ Roomy (edgeAt ks base kind) base at (length (now vertices)) (length (now slots)) ⌝ }
+    requires { ⌜ Roomy (edgeAt ks base kind) first at (base + 7) (length (now vertices)) (length (now slots)) ⌝ }
     ensures { λ r.
         let before = drawn (now (vertices .entry)) (now (slots .entry)) in
         let after = drawn (now (vertices .exit)) (now (slots .exit)) in
-        ⌜ Draws (lattice sizes (now (samples .entry))) (edgeAt ks base kind) at before r after ⌝ }
+        ⌜ Draws (lattice sizes (now (samples .entry))) (edgeAt ks base kind) first at before r after ⌝ }
 {
     if bits::has_bit(ks, kind) {
         let v = crossing::vertex_on(samples, sizes, p, kind);
-        crossing::put_vertex(vertices, at, v);
+        crossing::put_vertex(vertices, at - first, v);
         slots[base + kind] = at as u32;
         return at + 1;
     }
@@ -46,21 +51,294 @@ pub fn put_anchor(
     ks: u64,
     slots: &mut [u32],
     vertices: &mut [i32],
+    first: usize,
     at: usize,
 ) -> usize
     requires { ⌜ Full (lattice sizes (now samples)) × SampleIn sizes p × (base ≡ 7 * sampleNo sizes p) ⌝ }
     requires { ⌜ Crossing (lattice sizes (now samples)) p ks ⌝ }
-    requires { ⌜ Roomy (edgesAt ks base 7) base at (length (now vertices)) (length (now slots)) ⌝ }
+    requires { ⌜ Roomy (edgesAt ks base 7) first at (base + 7) (length (now vertices)) (length (now slots)) ⌝ }
     ensures { λ r.
         let before = drawn (now (vertices .entry)) (now (slots .entry)) in
         let after = drawn (now (vertices .exit)) (now (slots .exit)) in
-        ⌜ Draws (lattice sizes (now (samples .entry))) (edgesAt ks base 7) at before r after ⌝ }
+        ⌜ Draws (lattice sizes (now (samples .entry))) (edgesAt ks base 7) first at before r after ⌝ }
 {
     let mut next = at;
     let mut kind = 0;
     while kind < 7 {
-        next = put_kind(samples, sizes, p, base, ks, kind, slots, vertices, next);
+        next = put_kind(
+            samples,
+            sizes,
+            p,
+            base,
+            ks,
+            kind,
+            slots,
+            vertices,
+            first,
+            next,
+        );
         kind += 1;
     }
     next
+}
+
+// The places that one of the seven words has.
+fn any_kind(k: KindWords) -> u64
+    ensures { λ r. ⌜ r ≡ anyOf k ⌝ }
+{
+    k.k0 | k.k1 | k.k2 | k.k3 | k.k4 | k.k5 | k.k6
+}
+
+// The vertices of the anchor p of a row: `any` has the anchors of the row that have one, `row` is the number of its first edge.
+fn put_place(
+    samples: &[i16],
+    sizes: Sizes,
+    k: KindWords,
+    any: u64,
+    row: usize,
+    p: Place,
+    slots: &mut [u32],
+    vertices: &mut [i32],
+    first: usize,
+    at: usize,
+) -> usize
+    requires { let r = 7 * (sizes .nx * (p .y + sizes .ny * p .z)) in
+        ⌜ Full (lattice sizes (now samples)) × SampleIn sizes p × (any ≡ anyOf k) × (row ≡ r) ⌝ }
+    requires { ⌜ Crossed (lattice sizes (now samples)) (anchorEdges k row (p .x)) ⌝ }
+    requires { ⌜ Roomy (anchorEdges k row (p .x)) first at (neededSlots sizes) (length (now vertices)) (length (now slots)) ⌝ }
+    ensures { λ r.
+        let before = drawn (now (vertices .entry)) (now (slots .entry)) in
+        let after = drawn (now (vertices .exit)) (now (slots .exit)) in
+        ⌜ Draws (lattice sizes (now (samples .entry))) (anchorEdges k row (p .x)) first at before r after ⌝ }
+{
+    let x = p.x;
+    if bits::has_bit(any, x) {
+        let ks = kinds::kinds_at(k, x);
+        return put_anchor(
+            samples,
+            sizes,
+            p,
+            row + 7 * x,
+            ks,
+            slots,
+            vertices,
+            first,
+            at,
+        );
+    }
+    at
+}
+
+// The vertices of the row of anchors at y and z, which has the edges k.
+pub fn put_row(
+    samples: &[i16],
+    sizes: Sizes,
+    k: KindWords,
+    y: usize,
+    z: usize,
+    slots: &mut [u32],
+    vertices: &mut [i32],
+    first: usize,
+    at: usize,
+) -> usize
+    requires { ⌜ Full (lattice sizes (now samples)) × (y < sizes .ny) × (z < sizes .nz) ⌝ }
+    requires { ⌜ Crossed (lattice sizes (now samples)) (rowEdges k (7 * (sizes .nx * (y + sizes .ny * z))) (sizes .nx)) ⌝ }
+    requires { let es = rowEdges k (7 * (sizes .nx * (y + sizes .ny * z))) (sizes .nx) in
+        ⌜ Roomy es first at (neededSlots sizes) (length (now vertices)) (length (now slots)) ⌝ }
+    ensures { λ r.
+        let before = drawn (now (vertices .entry)) (now (slots .entry)) in
+        let after = drawn (now (vertices .exit)) (now (slots .exit)) in
+        let es = rowEdges k (7 * (sizes .nx * (y + sizes .ny * z))) (sizes .nx) in
+        ⌜ Draws (lattice sizes (now (samples .entry))) es first at before r after ⌝ }
+{
+    let any = any_kind(k);
+    let n = sizes.nx;
+    let row = 7 * (n * (y + sizes.ny * z));
+    let mut next = at;
+    let mut x = 0;
+    while x < n {
+        next = put_place(
+            samples,
+            sizes,
+            k,
+            any,
+            row,
+            Place { x: x, y: y, z: z },
+            slots,
+            vertices,
+            first,
+            next,
+        );
+        x += 1;
+    }
+    next
+}
+
+// The vertices of the row of anchors at y and z, by rows of sides and of cubes.
+pub fn put_row_at(
+    samples: &[i16],
+    sizes: Sizes,
+    rows: &[u64],
+    vis: &[u64],
+    y: usize,
+    z: usize,
+    slots: &mut [u32],
+    vertices: &mut [i32],
+    first: usize,
+    at: usize,
+) -> usize
+    requires { ⌜ Full (lattice sizes (now samples)) × (y < sizes .ny) × (z < sizes .nz) ⌝ }
+    requires { ⌜ (sizes .ny * sizes .nz ≤ length (now rows)) × (sizes .ny * sizes .nz ≤ length (now vis)) ⌝ }
+    requires { ⌜ Crossed (lattice sizes (now samples)) (edgesOf sizes (now rows) (now vis) y z) ⌝ }
+    requires { let es = edgesOf sizes (now rows) (now vis) y z in
+        ⌜ Roomy es first at (neededSlots sizes) (length (now vertices)) (length (now slots)) ⌝ }
+    ensures { λ r.
+        let es = edgesOf sizes (now (rows .entry)) (now (vis .entry)) y z in
+        let before = drawn (now (vertices .entry)) (now (slots .entry)) in
+        let after = drawn (now (vertices .exit)) (now (slots .exit)) in
+        ⌜ Draws (lattice sizes (now (samples .entry))) es first at before r after ⌝ }
+{
+    let v = kinds::cubes_around(vis, sizes, y, z);
+    if rows::either(v) == 0 {
+        return at;
+    }
+    let f = kinds::sides_around(rows, sizes, y, z);
+    let k = kinds::kinds(f, v);
+    put_row(samples, sizes, k, y, z, slots, vertices, first, at)
+}
+
+// The vertices of the layer of anchors at z.
+fn put_layer(
+    samples: &[i16],
+    sizes: Sizes,
+    rows: &[u64],
+    vis: &[u64],
+    z: usize,
+    slots: &mut [u32],
+    vertices: &mut [i32],
+    first: usize,
+    at: usize,
+) -> usize
+    requires { ⌜ Full (lattice sizes (now samples)) × (z < sizes .nz) ⌝ }
+    requires { ⌜ (sizes .ny * sizes .nz ≤ length (now rows)) × (sizes .ny * sizes .nz ≤ length (now vis)) ⌝ }
+    requires { ⌜ Crossed (lattice sizes (now samples)) (layerEdges sizes (now rows) (now vis) z) ⌝ }
+    requires { let es = layerEdges sizes (now rows) (now vis) z in
+        ⌜ Roomy es first at (neededSlots sizes) (length (now vertices)) (length (now slots)) ⌝ }
+    ensures { λ r.
+        let es = layerEdges sizes (now (rows .entry)) (now (vis .entry)) z in
+        let before = drawn (now (vertices .entry)) (now (slots .entry)) in
+        let after = drawn (now (vertices .exit)) (now (slots .exit)) in
+        ⌜ Draws (lattice sizes (now (samples .entry))) es first at before r after ⌝ }
+{
+    let n = sizes.ny;
+    let mut next = at;
+    let mut y = 0;
+    while y < n {
+        next = put_row_at(
+            samples,
+            sizes,
+            rows,
+            vis,
+            y,
+            z,
+            slots,
+            vertices,
+            first,
+            next,
+        );
+        y += 1;
+    }
+    next
+}
+
+// All vertices, numbered from 0; how many there are is returned.
+pub fn put_vertices(
+    samples: &[i16],
+    sizes: Sizes,
+    rows: &[u64],
+    vis: &[u64],
+    slots: &mut [u32],
+    vertices: &mut [i32],
+) -> usize
+    requires { ⌜ Full (lattice sizes (now samples)) × (neededSlots sizes ≤ length (now slots)) ⌝ }
+    requires { ⌜ (sizes .ny * sizes .nz ≤ length (now rows)) × (sizes .ny * sizes .nz ≤ length (now vis)) ⌝ }
+    requires { ⌜ Crossed (lattice sizes (now samples)) (edgesBy sizes (now rows) (now vis)) ⌝ }
+    requires { ⌜ 4 * length (edgesBy sizes (now rows) (now vis)) ≤ length (now vertices) ⌝ }
+    ensures { λ r.
+        let es = edgesBy sizes (now (rows .entry)) (now (vis .entry)) in
+        let before = drawn (now (vertices .entry)) (now (slots .entry)) in
+        let after = drawn (now (vertices .exit)) (now (slots .exit)) in
+        ⌜ Draws (lattice sizes (now (samples .entry))) es 0 0 before r after ⌝ }
+{
+    let n = sizes.nz;
+    let mut next = 0;
+    let mut z = 0;
+    while z < n {
+        next = put_layer(samples, sizes, rows, vis, z, slots, vertices, 0, next);
+        z += 1;
+    }
+    next
+}
+
+// The slots of the layer of anchors at z are numbered from `at` on; the next number is returned. Each row is written to the buffer.
+fn number_layer(
+    samples: &[i16],
+    sizes: Sizes,
+    rows: &[u64],
+    vis: &[u64],
+    z: usize,
+    slots: &mut [u32],
+    buffer: &mut [i32],
+    at: usize,
+) -> usize
+    requires { let room = length (now buffer) in
+        ⌜ Full (lattice sizes (now samples)) × (z < sizes .nz) × (neededSlots sizes ≤ length (now slots)) × (1792 ≤ room) ⌝ }
+    requires { ⌜ (sizes .ny * sizes .nz ≤ length (now rows)) × (sizes .ny * sizes .nz ≤ length (now vis)) ⌝ }
+    requires { ⌜ Crossed (lattice sizes (now samples)) (layerEdges sizes (now rows) (now vis) z) × (at < 4000000000) ⌝ }
+    ensures { λ r.
+        let es = layerEdges sizes (now (rows .entry)) (now (vis .entry)) z in
+        ⌜ Numbers es at (now (slots .entry)) r (now (slots .exit)) × (length (now (buffer .exit)) ≡ length (now (buffer .entry))) ⌝ }
+{
+    let n = sizes.ny;
+    let mut next = at;
+    let mut y = 0;
+    while y < n {
+        next = put_row_at(samples, sizes, rows, vis, y, z, slots, buffer, next, next);
+        y += 1;
+    }
+    next
+}
+
+// All slots are numbered from 1 on.
+fn number_layers(
+    samples: &[i16],
+    sizes: Sizes,
+    rows: &[u64],
+    vis: &[u64],
+    slots: &mut [u32],
+    buffer: &mut [i32],
+)
+    requires { ⌜ Full (lattice sizes (now samples)) × (neededSlots sizes ≤ length (now slots)) × (1792 ≤ length (now buffer)) ⌝ }
+    requires { ⌜ (sizes .ny * sizes .nz ≤ length (now rows)) × (sizes .ny * sizes .nz ≤ length (now vis)) ⌝ }
+    requires { ⌜ Crossed (lattice sizes (now samples)) (edgesBy sizes (now rows) (now vis)) ⌝ }
+    ensures { λ _. ⌜ now (slots .exit) ≡ numbered 1 (edgesBy sizes (now (rows .entry)) (now (vis .entry))) (now (slots .entry)) ⌝ }
+{
+    let n = sizes.nz;
+    let mut next = 1;
+    let mut z = 0;
+    while z < n {
+        next = number_layer(samples, sizes, rows, vis, z, slots, buffer, next);
+        z += 1;
+    }
+}
+
+// The slots of all edges with a vertex are numbered from 1 on.
+pub fn number_slots(samples: &[i16], sizes: Sizes, rows: &[u64], vis: &[u64], slots: &mut [u32])
+    requires { ⌜ Full (lattice sizes (now samples)) × (neededSlots sizes ≤ length (now slots)) ⌝ }
+    requires { ⌜ (sizes .ny * sizes .nz ≤ length (now rows)) × (sizes .ny * sizes .nz ≤ length (now vis)) ⌝ }
+    requires { ⌜ Crossed (lattice sizes (now samples)) (edgesBy sizes (now rows) (now vis)) ⌝ }
+    ensures { λ _. ⌜ now (slots .exit) ≡ numbered 1 (edgesBy sizes (now (rows .entry)) (now (vis .entry))) (now (slots .entry)) ⌝ }
+{
+    let mut buffer = [0i32; 1792];
+    number_layers(samples, sizes, rows, vis, slots, &mut buffer[..]);
 }

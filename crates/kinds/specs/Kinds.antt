@@ -94,3 +94,7 @@ cubesAround n words y z = record {
   c = rowBefore n words y z 0 1;
   d = rowBefore n words y z 1 1;
 }
+
+-- the kinds of the row of anchors at y and z, by rows of sides and rows of cubes
+unfoldable pub kindsBy : Sizes → List ℕ → List ℕ → ℕ → ℕ → KindWords
+kindsBy n rows vis y z = kindsOf (sidesAround n rows y z) (cubesAround n vis y z)

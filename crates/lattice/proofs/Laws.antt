@@ -8,7 +8,7 @@ use Rattle.paper.specs.declared.Place.{Place}
 use Rattle.paper.specs.Lattice.{place, samples, sampleNo, cubes, corner}
 use Rattle.paper.specs.Within.{Sized, SampleIn, CubeIn}
 use Rattle.lattice.specs.Steps.{nextIn, cornerStep}
-use Rattle.paper.proofs.Numbers.{digits-place, sample-lt, corner-inside}
+use Rattle.paper.proofs.Numbers.{digits-place}
 
 module _ (z : Sizes) (s : Sized z) where
   pub layer-few : z .ny * z .nz ≤ 4096
@@ -49,12 +49,6 @@ carry-z w h x y z e f =
 
 -- the place of the number after p's: in the row, in the next row, in the next layer
 module _ (w h : ℕ) (p : Place) (hx : p .x < w) (hy : p .y < h) where
-  pub next-x : p .x + 1 < w → place (p .x + 1) (p .y) (p .z) ≡ nextIn w h p
-  unfolding nextIn
-  next-x l =
-      sym (digits-place w h (place (p .x + 1) (p .y) (p .z)) l hy)
-      ∙ ap (λ (n : ℕ). place (n % w) (n / w % h) (n / (w * h))) (omega arith)
-
   pub next-y : (p .x + 1 < w → ⊥) → p .y + 1 < h → place 0 (p .y + 1) (p .z) ≡ nextIn w h p
   unfolding nextIn
   next-y n l =
@@ -87,10 +81,6 @@ corner-no z p c =
 -- a cube's lowest and farthest corners are samples
 pub low-in : (z : Sizes) (p : Place) → CubeIn z p → SampleIn z p
 low-in z p h = record { x = omega (arith, h .x); y = omega (arith, h .y); z = omega (arith, h .z) }
-
-pub far-lt : (z : Sizes) (p : Place) → CubeIn z p → sampleNo z p + 1 + z .nx + z .nx * z .ny < samples z
-unfolding cornerStep
-far-lt z p h = omega (arith, corner-no z p 7, sample-lt z (corner p 7) (corner-inside z p h 7 (omega arith)))
 
 pub floor-few : (z : Sizes) → Sized z → z .nx * z .ny ≤ 4096
 floor-few z s = mul-le-mul (s .x-high) (s .y-high)

@@ -3,7 +3,7 @@ use paper::Place;
 use paper::Sizes;
 ghost use mathlib.Core.Path.{_≡_};
 ghost use Prim.Native.Nat.{_+_, _*_, _/_, _%_, _≤_, _<_};
-ghost use Rattle.paper.specs.Lattice.{place, axis, axes, samples, sampleNo, sampleAt, cubes, cubeNo, cubeAt};
+ghost use Rattle.paper.specs.Lattice.{place, axis, axes, samples, sampleNo, cubes, cubeNo, cubeAt};
 ghost use Rattle.paper.specs.Within.{Sized, SampleIn, CubeIn};
 
 // "An axis has 2 to 64 samples."
@@ -87,56 +87,4 @@ pub fn cube_at(sizes: Sizes, k: usize) -> Place
     let w = sizes.nx - 1;
     let h = sizes.ny - 1;
     place_of(k, w, h)
-}
-
-// The place of the sample of the next number.
-pub fn next_sample(sizes: Sizes, p: Place) -> Place
-    requires { ⌜ Sized sizes × SampleIn sizes p ⌝ }
-    ensures { λ r. ⌜ r ≡ sampleAt sizes (sampleNo sizes p + 1) ⌝ }
-{
-    if p.x + 1 < sizes.nx {
-        return Place {
-            x: p.x + 1,
-            y: p.y,
-            z: p.z,
-        };
-    }
-    if p.y + 1 < sizes.ny {
-        return Place {
-            x: 0,
-            y: p.y + 1,
-            z: p.z,
-        };
-    }
-    Place {
-        x: 0,
-        y: 0,
-        z: p.z + 1,
-    }
-}
-
-// The place of the cube of the next number.
-pub fn next_cube(sizes: Sizes, p: Place) -> Place
-    requires { ⌜ Sized sizes × CubeIn sizes p ⌝ }
-    ensures { λ r. ⌜ r ≡ cubeAt sizes (cubeNo sizes p + 1) ⌝ }
-{
-    if p.x + 2 < sizes.nx {
-        return Place {
-            x: p.x + 1,
-            y: p.y,
-            z: p.z,
-        };
-    }
-    if p.y + 2 < sizes.ny {
-        return Place {
-            x: 0,
-            y: p.y + 1,
-            z: p.z,
-        };
-    }
-    Place {
-        x: 0,
-        y: 0,
-        z: p.z + 1,
-    }
 }

@@ -2,7 +2,8 @@
 use paper::Sizes;
 use paper::Verdict;
 ghost use mathlib.Core.Path.{_≡_};
-ghost use Prim.Native.Nat.{_+_, _*_, _<_, _≤_};
+ghost use mathlib.Core.Bool.{true};
+ghost use Prim.Native.Nat.{ℕ, _+_, _*_, _<_, _≤_};
 ghost use lib.IntN.{pos};
 ghost use lib.ListN.{length, getD};
 ghost use Rattle.paper.specs.Tests.{judge};
@@ -114,8 +115,46 @@ fn laid_out(bytes: &[u8]) -> bool
     bytes.len() == front + 24
 }
 
+// Whether a number is below n, and all before it were.
+fn still_below(so: bool, a: u32, n: u32) -> bool
+    ensures { λ r. ⌜ (r ≡ true → (so ≡ true) × (a < n)) ⌝ }
+{
+    if n <= a {
+        return false;
+    }
+    so
+}
+
+// Whether the triangles' numbers are all below V: a loop without a way out, so that many are looked at in a turn.
+fn all_below(bytes: &[u8], nv: usize, nt: usize) -> bool
+    requires { ⌜ Ranged (now bytes) × (nv ≡ fileV (now bytes)) × (nt ≡ fileT (now bytes)) ⌝ }
+    ensures { λ r. ⌜ (r ≡ true → ((j : ℕ) → j < 3 * nt → getD (fileTriangles (now (bytes .entry))) j 0 < nv)) ⌝ }
+{
+    let v = nv as u32;
+    let n = 3 * nt;
+    let mut below = true;
+    let mut i = 0;
+    while i < n {
+        below = still_below(below, triangle_word(bytes, nv, i), v);
+        i += 1;
+    }
+    below
+}
+
 // The first triangle of a file with an index that is not below V, or T.
 fn first_bad_in(bytes: &[u8], nv: usize, nt: usize) -> usize
+    requires { ⌜ Ranged (now bytes) × (nv ≡ fileV (now bytes)) × (nt ≡ fileT (now bytes)) ⌝ }
+    ensures { λ r. ⌜ r ≡ firstBad nv nt (fileTriangles (now (bytes .entry))) ⌝ }
+{
+    let below = all_below(bytes, nv, nt);
+    if below {
+        return nt;
+    }
+    sought_bad(bytes, nv, nt)
+}
+
+// The same, triangle by triangle.
+fn sought_bad(bytes: &[u8], nv: usize, nt: usize) -> usize
     requires { ⌜ Ranged (now bytes) × (nv ≡ fileV (now bytes)) × (nt ≡ fileT (now bytes)) ⌝ }
     ensures { λ r. ⌜ r ≡ firstBad nv nt (fileTriangles (now (bytes .entry))) ⌝ }
 {

@@ -1,5 +1,5 @@
 -- The steps of a pattern, one behind the other, and where the table has them. Assumes nothing.
-use mathlib.Core.Path.{_≡_, refl, sym, ap, _∙_}
+use mathlib.Core.Path.{_≡_, refl, sym, ap, subst, _∙_}
 use mathlib.Core.List.{List, [], _∷_, _++_, map, map-map}
 use Prim.Native.Nat.{ℕ, zero, suc, _+_, _-_, _*_, _/_, _%_, _≤_, _<_}
 use native.Mathlib.Omega.{arith}
@@ -9,7 +9,7 @@ use native.Mathlib.Numerals.{add-one}
 use lib.ListN.{length, getD, set, length-set, length-append}
 use lib.Seq.{sets, length-sets, getD-set-same, getD-set-other}
 use Rattle.lists.specs.Lists.{range, each}
-use Rattle.lists.proofs.Every.{each-length, each-same, in-all}
+use Rattle.lists.proofs.Every.{All, all-map, all-each, each-length, each-same, in-all}
 use Rattle.lists.proofs.Member.{range-in}
 use Rattle.lists.proofs.Runs.{along-list, along-snoc, length-along, each-more}
 use Rattle.lists.proofs.Within.{each-each, map-each}
@@ -134,6 +134,27 @@ pattern-is z m =
 
 pub pattern-le : (s : List ℕ) (m : ℕ) → length (patternFrom s m) ≤ 36
 pattern-le s m = omega (arith, ap length (to-all s m), to-le s m 6)
+
+pub steps-few : (z : Sizes) (m : ℕ) → length (stepsBy z m) ≤ 36
+steps-few z m = omega (arith, ap length (pattern-is z m), pattern-le (rowSteps z) m)
+
+-- what holds of the steps of all tetrahedra's edges holds of a pattern's
+module _ (z : Sizes) (P : ℕ → Type 0) (h : (t j : ℕ) → t < 6 → j < 6 → P (tetStep z t j)) where
+  row-all : (t r : ℕ) → t < 6 → r < 16 → All P (stepsFrom (rowSteps z) t r)
+  unfolding stepsFrom
+  row-all t r ht hr =
+      all-map P (λ i. getD (rowSteps z) (96 * t + (6 * r + i)) 0) (range 0 (3 * rowCount r))
+      (in-all _ (range 0 (3 * rowCount r))
+      (λ i k.
+      let six : i < 6 = omega (arith, range-in 0 (3 * rowCount r) i k, count-le r) in
+      subst P (sym (row-step-at z t r i ht hr six)) (h t (rowEdge r i) ht (edge-six r i hr six))))
+
+  pub steps-all : (m : ℕ) → All P (stepsBy z m)
+  unfolding patternFrom
+  steps-all m =
+      subst (All P) (pattern-is z m)
+      (all-each P (λ t. stepsFrom (rowSteps z) t (rowBy m t)) (range 0 6)
+      (in-all _ (range 0 6) (λ t i. row-all t (rowBy m t) (omega (arith, range-in 0 6 t i)) (row-small m t))))
 
 -- and they are small
 pub steps-small : (z : Sizes) → Sized z → Small (rowSteps z)

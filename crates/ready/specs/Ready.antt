@@ -1,12 +1,16 @@
 -- What tests 1 to 5 answer and leave known. Assumes nothing.
 use mathlib.Core.Path.{_≡_}
+use mathlib.Core.List.{List}
 use Prim.Native.Nat.{ℕ, _<_}
+use lib.IntN.{ℤ}
+use Rattle.paper.specs.declared.Sizes.{Sizes}
 use Rattle.paper.specs.declared.Start.{Start}
-use Rattle.paper.specs.Lattice.{Lattice, cubes}
+use Rattle.paper.specs.Lattice.{Lattice, lattice, cubes}
 use Rattle.paper.specs.Tests.{judge}
 use Rattle.paper.specs.Room.{Lengths}
 use Rattle.paper.specs.Build.{startOf, shapeTests, startTests, sampleTests}
 use Rattle.paper.specs.Within.{Full, Roomy}
+use Rattle.rows.specs.Rows.{HasRows}
 use Rattle.ready.specs.declared.Ready.{Ready}
 
 -- tests 1 to 3: the number of the first that fails, or 0; n are the lengths of the work slices
@@ -21,14 +25,19 @@ pub record Chosen (L : Lattice) (s : Start) (r : Ready) : Type 0 where
   pub is : r .number ≡ 0 → r .cube ≡ startOf L s
   pub below : r .number ≡ 0 → r .cube < cubes (L .size)
 
--- all five are passed, and k is the start cube
-pub record Begins (L : Lattice) (s : Start) (n : Lengths) (k : ℕ) : Type 0 where
+-- of any lattice that has these rows of sides
+pub record ChosenBy (z : Sizes) (rows : List ℕ) (s : Start) (r : Ready) : Type 0 where
+  pub of : (v : List ℤ) → HasRows (lattice z v) rows → Chosen (lattice z v) s r
+
+-- all five are passed, these are the rows of sides, and k is the start cube
+pub record Begins (L : Lattice) (s : Start) (n : Lengths) (rows : List ℕ) (k : ℕ) : Type 0 where
   pub full : Full L
+  pub sides : HasRows L rows
   pub roomy : Roomy (L .size) n
   pub is : k ≡ startOf L s
   pub below : k < cubes (L .size)
 
 -- the number of the first test that fails, or 0 with the start cube
-pub record Readied (L : Lattice) (s : Start) (n : Lengths) (r : Ready) : Type 0 where
+pub record Readied (L : Lattice) (s : Start) (n : Lengths) (rows : List ℕ) (r : Ready) : Type 0 where
   pub answer : r .number ≡ judge (sampleTests L s n) .number
-  pub begins : r .number ≡ 0 → Begins L s n (r .cube)
+  pub begins : r .number ≡ 0 → Begins L s n rows (r .cube)

@@ -1,14 +1,15 @@
-// Tests 1 to 5 on the samples, which building and checking share, and the start cube.
+// Tests 1 to 5 on the samples, which building and checking share, the rows of sides and the start cube.
 use paper::Place;
 use paper::Sizes;
 use paper::Start;
 ghost use mathlib.Core.Path.{_≡_};
-ghost use Prim.Native.Nat.{_<_};
+ghost use Prim.Native.Nat.{_*_, _≤_};
+ghost use lib.ListN.{length};
 ghost use Rattle.paper.specs.Lattice.{lattice, inLattice};
 ghost use Rattle.paper.specs.Room.{ofLengths, roomy};
-ghost use Rattle.paper.specs.Within.{Sized, Full};
+ghost use Rattle.paper.specs.Within.{Sized};
 ghost use Rattle.paper.specs.declared.Start.the-variants.{Unnamed, Cube};
-ghost use Rattle.ready.specs.Ready.{Shaped, Chosen, Readied};
+ghost use Rattle.ready.specs.Ready.{Shaped, ChosenBy, Readied};
 
 // 0 or the number of a refusal, and the start cube where it is 0.
 pub struct Ready {
@@ -46,15 +47,15 @@ fn is_cube(sizes: Sizes, p: Place) -> bool
 }
 
 // Tests 4 and 5 of a named cube.
-fn named_cube(samples: &[i16], sizes: Sizes, p: Place) -> Ready
-    requires { ⌜ Full (lattice sizes (now samples)) ⌝ }
-    ensures { λ r. ⌜ Chosen (lattice sizes (now (samples .entry))) (Cube p) r ⌝ }
+fn named_cube(rows: &[u64], sizes: Sizes, p: Place) -> Ready
+    requires { ⌜ Sized sizes × (sizes .ny * sizes .nz ≤ length (now rows)) ⌝ }
+    ensures { λ r. ⌜ ChosenBy sizes (now (rows .entry)) (Cube p) r ⌝ }
 {
     let there = is_cube(sizes, p);
     if !there {
         return Ready { number: 4, cube: 0 };
     }
-    let crossed = sides::crossed_at(samples, sizes, p);
+    let crossed = rows::crossed_at(rows, sizes, p);
     if !crossed {
         return Ready { number: 5, cube: 0 };
     }
@@ -65,11 +66,11 @@ fn named_cube(samples: &[i16], sizes: Sizes, p: Place) -> Ready
 }
 
 // Test 5 where no cube is named.
-fn lowest_cube(samples: &[i16], sizes: Sizes) -> Ready
-    requires { ⌜ Full (lattice sizes (now samples)) ⌝ }
-    ensures { λ r. ⌜ Chosen (lattice sizes (now (samples .entry))) Unnamed r ⌝ }
+fn lowest_cube(rows: &[u64], sizes: Sizes) -> Ready
+    requires { ⌜ Sized sizes × (sizes .ny * sizes .nz ≤ length (now rows)) ⌝ }
+    ensures { λ r. ⌜ ChosenBy sizes (now (rows .entry)) Unnamed r ⌝ }
 {
-    let k = sides::lowest_crossed(samples, sizes);
+    let k = rows::lowest_crossed(rows, sizes);
     let n = lattice::cube_count(sizes);
     if n <= k {
         return Ready { number: 5, cube: 0 };
@@ -77,14 +78,14 @@ fn lowest_cube(samples: &[i16], sizes: Sizes) -> Ready
     Ready { number: 0, cube: k }
 }
 
-// Tests 4 and 5.
-fn choose(samples: &[i16], sizes: Sizes, start: Start) -> Ready
-    requires { ⌜ Full (lattice sizes (now samples)) ⌝ }
-    ensures { λ r. ⌜ Chosen (lattice sizes (now (samples .entry))) start r ⌝ }
+// Tests 4 and 5, by the rows of sides.
+fn choose(rows: &[u64], sizes: Sizes, start: Start) -> Ready
+    requires { ⌜ Sized sizes × (sizes .ny * sizes .nz ≤ length (now rows)) ⌝ }
+    ensures { λ r. ⌜ ChosenBy sizes (now (rows .entry)) start r ⌝ }
 {
     match start {
-        Start::Unnamed => lowest_cube(samples, sizes),
-        Start::Cube(p) => named_cube(samples, sizes, p),
+        Start::Unnamed => lowest_cube(rows, sizes),
+        Start::Cube(p) => named_cube(rows, sizes, p),
     }
 }
 
@@ -107,7 +108,7 @@ pub fn shape(samples: &[i16], sizes: Sizes, words: usize, waiting: usize, slots:
     0
 }
 
-// Tests 1 to 5.
+// Tests 1 to 5; where the first three are passed, the rows of sides are made.
 pub fn begin(
     samples: &[i16],
     sizes: Sizes,
@@ -115,8 +116,12 @@ pub fn begin(
     words: usize,
     waiting: usize,
     slots: usize,
+    rows: &mut [u64],
 ) -> Ready
-    ensures { λ r. ⌜ Readied (lattice sizes (now (samples .entry))) start (ofLengths words waiting slots) r ⌝ }
+    requires { ⌜ 4096 ≤ length (now rows) ⌝ }
+    ensures { λ r.
+        let L = lattice sizes (now (samples .entry)) in
+        ⌜ Readied L start (ofLengths words waiting slots) (now (rows .exit)) r ⌝ }
 {
     let number = shape(samples, sizes, words, waiting, slots);
     if number != 0 {
@@ -125,5 +130,6 @@ pub fn begin(
             cube: 0,
         };
     }
-    choose(samples, sizes, start)
+    rows::side_rows(samples, sizes, rows);
+    choose(rows, sizes, start)
 }

@@ -17,9 +17,8 @@ use Rattle.paper.specs.Lattice.{Lattice}
 use Rattle.paper.specs.Sheet.{vertexRecord}
 use Rattle.paper.specs.Room.{neededSlots}
 use Rattle.paper.specs.Check.{sameNumbers, recordOf}
-use Rattle.survey.specs.Marks.{used}
-use Rattle.measure.specs.Crossed.{AllCross}
-use Rattle.records.specs.Records.{edgeAt, goodRecord, goodEdge, emptied, edgesTo, slotsAfter}
+use Rattle.dots.specs.Slots.{used}
+use Rattle.records.specs.Records.{AllCross, edgeAt, goodRecord, goodEdge, emptied, edgesTo, slotsAfter}
 
 -- ── one record ──
 

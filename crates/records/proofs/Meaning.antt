@@ -22,7 +22,7 @@ use Rattle.paper.specs.Sheet.{Sheet, vertexRecord}
 use Rattle.paper.specs.Room.{neededSlots}
 use Rattle.paper.specs.Check.{sameNumber, sameNumbers, recordOf, edgeOf, badRecord}
 use Rattle.paper.proofs.Records.{same-number, number-same, same-numbers, record-edge}
-use Rattle.survey.specs.Marks.{used}
+use Rattle.dots.specs.Slots.{used}
 use Rattle.records.specs.Records.{edgeIn, edgeAt, goodRecord, edgesTo, slotsAfter, badIn, firstBadIn}
 use Rattle.records.proofs.Laws.{emptied-used}
 

@@ -1,15 +1,20 @@
 -- A file's vertex records against the slots of the sheet's vertices. Assumes nothing.
 use mathlib.Core.Bool.{Bool, cond, not, _&&_}
 use mathlib.Core.List.{List, map}
-use Prim.Native.Nat.{ℕ}
+use Prim.Native.Nat.{ℕ, _/_, _%_, _<_}
 use lib.IntN.{ℤ, pos, negsuc}
-use lib.Dec.{ltb}
+use lib.Dec.{T, ltb}
 use Rattle.lists.specs.Lists.{range, first, stored}
-use Rattle.paper.specs.Lattice.{Lattice}
+use Rattle.paper.specs.Lattice.{Lattice, sampleAt}
 use Rattle.paper.specs.Sheet.{vertexRecord}
 use Rattle.paper.specs.Room.{neededSlots}
 use Rattle.paper.specs.Check.{sameNumbers, recordOf, edgeOf}
-use Rattle.survey.specs.Marks.{used}
+use Rattle.crossing.specs.Vertex.{Crosses}
+use Rattle.dots.specs.Slots.{used}
+
+-- every used slot is that of a side-changing edge
+pub record AllCross (L : Lattice) (slots : List ℕ) : Type 0 where
+  pub at : (e : ℕ) → e < neededSlots (L .size) → T (used slots e) → Crosses L (sampleAt (L .size) (e / 7)) (e % 7)
 
 -- a record's edge, or n where it is none of n
 abbrev pub edgeIn : ℤ → ℕ → ℕ

@@ -13,8 +13,7 @@ ghost use Rattle.paper.specs.File.{fileV, fileVertices};
 ghost use Rattle.paper.specs.Check.{sameNumber, sameNumbers, recordOf};
 ghost use Rattle.crossing.specs.Vertex.{numbers};
 ghost use Rattle.layout.specs.Laid.{Ranged};
-ghost use Rattle.measure.specs.Crossed.{AllCross};
-ghost use Rattle.records.specs.Records.{edgeIn, goodEdge, firstBadIn, slotsAfter};
+ghost use Rattle.records.specs.Records.{AllCross, edgeIn, goodEdge, firstBadIn, slotsAfter};
 
 // Whether number k of the vertex records is b.
 fn same_word(bytes: &[u8], k: usize, b: i32) -> bool

@@ -7,16 +7,35 @@ use native.Mathlib.Omega.{arith}
 use native.Mathlib.Decide.{decLt}
 use lib.Dec.{eqb}
 use borrow.Author.Tests.{eqb-true}
+use Rattle.lists.proofs.Runs.{first-at, first-none}
 use Rattle.paper.specs.declared.Sizes.{Sizes}
 use Rattle.paper.specs.declared.Place.{Place}
 use Rattle.paper.specs.Lattice.{Lattice, place, crossed, cubes, cubeNo, cubeAt, lowest}
 use Rattle.paper.specs.Within.{Sized, CubeIn}
 use Rattle.paper.proofs.Numbers.{cube-place, cube-inside, cube-back, cube-lt}
-use Rattle.sides.proofs.Search.{none, found}
 use Rattle.bits.specs.Words.{bit, word}
 use Rattle.bits.proofs.Bits.{bit-of-0, bit-word}
 use Rattle.rows.specs.Rows.{HasRows, quadAt, crossedIn, crossedBy, lookedAt}
 use Rattle.rows.proofs.Cubes.{crossed-is}
+
+-- the lowest crossed cube, by numbers: none below the number of cubes, or one with none below it
+module _ (L : Lattice) (k : ℕ) (below : (j : ℕ) → j < k → crossed L j ≡ false) where
+  none : k ≡ cubes (L .size) → k ≡ lowest (L .size) (crossed L)
+  unfolding lowest
+  none e = e ∙ sym (first-none (crossed L) (cubes (L .size)) 0 (cubes (L .size)) (λ j a b. below j (omega arith)))
+
+  found : k < cubes (L .size) → crossed L k ≡ true → k ≡ lowest (L .size) (crossed L)
+  unfolding lowest
+  found l e =
+      sym (first-at (crossed L) (cubes (L .size)) 0 (cubes (L .size)) k (omega arith) (omega arith) (λ j a b. below j b) e)
+
+-- counters of rows within layers
+pub next : (w h k y z : ℕ) → k ≡ w * (y + h * z) → y ≡ h → k ≡ w * (h * (z + 1))
+next w h k y z e q = e ∙ (ap (λ (y : ℕ). w * (y + h * z)) q ∙ omega arith)
+
+pub full : (L : Lattice) (k z : ℕ) → z ≡ L .size .nz - 1 → k ≡ (L .size .nx - 1) * ((L .size .ny - 1) * z) → k ≡ cubes (L .size)
+unfolding cubes
+full L k z h e = e ∙ ap (λ (z : ℕ). (L .size .nx - 1) * ((L .size .ny - 1) * z)) h
 
 -- where none of the bits looked at is set, none is
 pub none-looked : (m n : ℕ) → ((i : ℕ) → i < lookedAt m n → bit m i ≡ false) → (i : ℕ) → i < n → bit m i ≡ false
@@ -81,11 +100,11 @@ module _ (L : Lattice) (rows : List ℕ) (s : Sized (L .size)) (h : HasRows L ro
       sym (crossed-is L rows h (cubeAt (L .size) j) (cube-inside (L .size) s j l) ∙ ap (crossed L) (cube-back (L .size) s j l))
 
   pub none-lowest : Clear (L .size) rows (cubes (L .size)) → cubes (L .size) ≡ lowest (L .size) (crossed L)
-  none-lowest c = none L (cubes (L .size)) refl (λ j l. crossed-no j l ∙ c j l)
+  none-lowest c = none L (cubes (L .size)) (λ j l. crossed-no j l ∙ c j l) refl
 
   pub found-lowest : (p : Place) → CubeIn (L .size) p → Clear (L .size) rows (cubeNo (L .size) p) → crossedBy (L .size) rows p ≡ true
       → cubeNo (L .size) p ≡ lowest (L .size) (crossed L)
   found-lowest p i c t =
       let n = cubeNo (L .size) p in
       let l : n < cubes (L .size) = cube-lt (L .size) p i in
-      found L n l (λ j g. crossed-no j (omega arith) ∙ c j g) (sym (crossed-is L rows h p i) ∙ t)
+      found L n (λ j g. crossed-no j (omega arith) ∙ c j g) l (sym (crossed-is L rows h p i) ∙ t)

@@ -3,23 +3,21 @@ use mathlib.Core.Path.{_≡_, sym, ap, _∙_}
 use mathlib.Core.Bool.{true, false, cond}
 use mathlib.Core.List.{List}
 use Prim.Native.Nat.{ℕ}
-use lib.IntN.{ℤ}
 use lib.ListN.{length}
 use borrow.Author.Tests.{ne-eqb}
 use Rattle.lists.specs.Lists.{over}
 use Rattle.paper.specs.declared.Sizes.{Sizes}
+use Rattle.paper.specs.declared.Built.{Built}
 use Rattle.paper.specs.declared.Start.{Start}
 use Rattle.paper.specs.declared.Verdict.{Verdict}
 use Rattle.paper.specs.Lattice.{Lattice}
 use Rattle.paper.specs.Sheet.{Sheet, sheetOf, vertexWords, triangleWords}
 use Rattle.paper.specs.Tests.{Test, judge}
-use Rattle.paper.specs.Room.{Work, work, lengths, vertexRoom, triangleRoom, roomTests, clears, clean, outputAfter}
-use Rattle.paper.specs.Build.{Lent, lent, startOf, sampleTests, buildNumber, counts, uncounted, leftAt, lentAfter, Builds}
+use Rattle.paper.specs.Room.{lengths, vertexRoom, triangleRoom, roomTests, clears, clean, outputAfter}
+use Rattle.paper.specs.Build.{Lent, lent, startOf, sampleTests, buildNumber, counts, counted, uncounted, leftAt, lentAfter, Builds}
 use Rattle.paper.proofs.Judged.{judge-past, judge-stop}
 use Rattle.paper.proofs.Passing.{sample-numbered, sample-counts, sample-keeps, room-counts, room-clears, built-at, work-kept, work-cleared}
-use Rattle.measure.specs.declared.Counts.{Counts}
-use Rattle.measure.specs.Measured.{countsOf, Measured}
-use Rattle.measure.proofs.Measuring.{undone}
+use Rattle.sheet.specs.Output.{roomNumber, BuildsFrom}
 
 module _ (L : Lattice) (s : Start) (l : Lent) where
   abbrev z : Sizes
@@ -63,31 +61,20 @@ module _ (L : Lattice) (s : Start) (l : Lent) where
     unfolding buildNumber
     room-number = ap (λ (v : Verdict). v .number) (judge-past tests room (sample-numbered L s (lengths (l .work))) passed)
 
-    -- the measured sheet is that of the start, and the work room is clear at its front
-    module _ (k : ℕ) (is : k ≡ startOf L s) (c : Counts) (w : Work)
-        (m : Measured L k (l .work .words) (l .work .waiting) (l .work .slots) (w .words) (w .waiting) (w .slots) c) (w′ : Work) (clear : w′ ≡ clean z w) where
-      counts-are : c ≡ countsOf S
-      counts-are = m .counts ∙ ap (λ (k : ℕ). countsOf (sheetOf L k)) is
-
-      -- the tests of room, by the counts: their number, its answer and what is left
-      pub settled : (n : ℕ) → n ≡ judge (roomTests (c .vertices) (c .triangles) (vertexRoom (l .vertices)) (triangleRoom (l .triangles))) .number
-          → (vs : List ℤ) (ts : List ℕ)
-          → vs ≡ outputAfter n (vertexWords (sheetOf L k)) (l .vertices) → ts ≡ outputAfter n (triangleWords (sheetOf L k)) (l .triangles)
-          → Builds L s l (record { number = n; vertices = c .vertices; triangles = c .triangles; cubes = c .cubes }) (lent vs ts w′)
-      settled n e vs ts ev et =
-          let e′ : n ≡ judge room .number =
-          e ∙ ap (λ (c : Counts). judge (roomTests (c .vertices) (c .triangles) (vertexRoom (l .vertices)) (triangleRoom (l .triangles))) .number) counts-are in
-          let b : buildNumber L s l ≡ n = room-number ∙ sym e′ in
-          let nv = length (S .edges) in
-          let nt = length (S .triangles) in
-          let clears-it : clears n ≡ true = ap clears e′ ∙ room-clears nv nt (vertexRoom (l .vertices)) (triangleRoom (l .triangles)) in
-          let fv = ev ∙ ap (λ (k : ℕ). outputAfter n (vertexWords (sheetOf L k)) (l .vertices)) is in
-          let ft = et ∙ ap (λ (k : ℕ). outputAfter n (triangleWords (sheetOf L k)) (l .triangles)) is in
-          let u = undone L k (l .work .words) (l .work .waiting) (l .work .slots) (w .words) (w .waiting) (w .slots) c m in
-          let fw = clear ∙ ((λ i. work (u .0 i) (u .1 i) (u .2 i)) ∙ sym (work-cleared n z (l .work) clears-it)) in
-          record {
-            answer =
-                (λ i. let d = counts-are i in record { number = n; vertices = d .vertices; triangles = d .triangles; cubes = d .cubes })
-                ∙ sym (built-at L s l n true b (ap counts e′ ∙ room-counts nv nt (vertexRoom (l .vertices)) (triangleRoom (l .triangles))));
-            left = (λ i. lent (fv i) (ft i) (fw i)) ∙ sym (left-at n b);
-          }
+    -- a build from the start answers so, and leaves this
+    pub settled : (k : ℕ) → k ≡ startOf L s → (r : Built) (after : Lent) → BuildsFrom L k l r after → Builds L s l r after
+    settled k is r after b =
+        let n = roomNumber S l in
+        let c : buildNumber L s l ≡ n = room-number in
+        let nv = length (S .edges) in
+        let nt = length (S .triangles) in
+        let u = vertexRoom (l .vertices) in
+        let v = triangleRoom (l .triangles) in
+        let f = work-cleared n z (l .work) (room-clears nv nt u v) in
+        record {
+          answer = b .answer ∙ (ap (λ (k : ℕ). let S = sheetOf L k in counted (roomNumber S l) S) is ∙ sym (built-at L s l n true c (room-counts nv nt u v)));
+          left =
+              b .left
+              ∙ (ap (λ (k : ℕ). let S = sheetOf L k in let n = roomNumber S l in lent (outputAfter n (vertexWords S) (l .vertices)) (outputAfter n (triangleWords S) (l .triangles)) (clean z (l .work))) is
+              ∙ ((λ i. lent (outputAfter n (vertexWords S) (l .vertices)) (outputAfter n (triangleWords S) (l .triangles)) (sym f i)) ∙ sym (left-at n c)));
+        }

@@ -1,69 +1,110 @@
--- What the numbered slots give: the sheet's vertices and triangles. Assumes nothing.
+-- What is drawn by rows is the sheet: its vertices, the numbers in the slots of its edges, its triangles. Assumes nothing.
 use mathlib.Core.Path.{_≡_, sym, ap, _∙_}
-use mathlib.Core.Bool.{Bool, cond}
 use mathlib.Core.List.{List}
-use Prim.Native.Nat.{ℕ, _+_, _<_}
+use Prim.Native.Nat.{ℕ, _-_, _*_, _/_, _≤_}
 use native.Mathlib.Omega.{arith}
-use lib.Dec.{T}
-use lib.ListN.{getD}
-use Rattle.lists.specs.Lists.{range, each, isIn, rank, over}
-use Rattle.lists.proofs.Member.{T→eq, range-in}
-use Rattle.lists.proofs.Every.{all-weak, all-in, each-same, each-map}
-use Rattle.lists.proofs.Closure.{keep-same}
+use lib.IntN.{ℤ}
+use lib.ListN.{length, getD}
+use lib.Seq.{sets}
+use Rattle.lists.specs.Lists.{each, over, cleared, Beyond}
+use Rattle.lists.proofs.Stores.{sets-front, clear-beyond}
 use Rattle.paper.specs.Lattice.{Lattice, visited}
-use Rattle.paper.specs.Tables.{Tri, tri}
-use Rattle.paper.specs.Sheet.{cubeEdges, vertexEdges, vertexRecord, numbered, sheetBy, sheetOf, vertexWords, corners3, triangleWords}
-use Rattle.paper.specs.Room.{neededSlots}
-use Rattle.paper.specs.Within.{Sized}
-use Rattle.paper.proofs.Listing.{Among, parts, sheet-edges, sheet-edges-lt, sheet-among, vertex-words}
-use Rattle.survey.specs.Marks.{used}
-use Rattle.measure.specs.Measured.{slotsOf}
-use Rattle.measure.proofs.Crossed.{slot-at, slot-used}
-use Rattle.vertices.specs.Records.{usedFrom, recordsFrom}
-use Rattle.triangles.specs.Named.{numberOf, byNumber, wordsFor}
+use Rattle.paper.specs.Sheet.{Sheet, vertexRecord, sheetOf, vertexWords, triangleWords}
+use Rattle.paper.specs.Tests.{judge}
+use Rattle.paper.specs.Room.{Work, work, needed, neededSlots, vertexRoom, triangleRoom, roomTests, clean, outputAfter}
+use Rattle.paper.specs.Build.{Lent, lent}
+use Rattle.paper.specs.Within.{Full}
+use Rattle.paper.proofs.Passing.{room-tests}
+use Rattle.paper.proofs.Listing.{parts, vertex-words-length}
+use Rattle.spread.specs.Flooded.{Stands}
+use Rattle.tally.specs.declared.Counts.{Counts}
+use Rattle.tally.specs.Tally.{Counted}
+use Rattle.patterns.specs.Table.{stepsBy, Tabled}
+use Rattle.dots.specs.Dots.{edgesBy, numbered, Crossed}
+use Rattle.dots.proofs.Meaning.{edges-by, edges-crossed, records-are, slots-rank, slots-beyond}
+use Rattle.tiles.specs.Tiles.{source, tilesBy}
+use Rattle.tiles.proofs.Meaning.{tiles-by, tiles-length}
+use Rattle.sheet.specs.Output.{Output, output, Fits, Puts, roomNumber, BuildsFrom}
 
-module _ (L : Lattice) (s : Sized (L .size)) (start : ℕ) (slots s₀ : List ℕ)
-    (e : slots ≡ over (slotsOf (L .size) (sheetOf L start .edges)) s₀) where
-  abbrev n : ℕ
-  n = neededSlots (L .size)
+module _ (L : Lattice) (full : Full L) (rows vis : List ℕ) (k : ℕ) (s : Stands L k rows vis) where
+  abbrev S : Sheet
+  S = sheetOf L k
 
-  abbrev es : List ℕ
-  es = sheetOf L start .edges
+  abbrev drawn : List ℕ
+  drawn = edgesBy (L .size) rows vis
 
-  -- the used slots are those of the vertices
-  pub used-edges : usedFrom slots 0 n ≡ es
-  unfolding usedFrom sheetOf sheetBy vertexEdges
-  used-edges =
-      let M = each (cubeEdges L) (visited L start) in
-      keep-same (used slots) (isIn M) (range 0 n)
-      (λ k t. slot-used L s start slots s₀ e k (omega (arith, range-in 0 n k t)) ∙ sheet-edges L s start k)
+  pub crossed : Crossed L drawn
+  crossed = edges-crossed L (full .sized) k rows vis (s .sides) (s .cubes)
 
-  pub records-are : recordsFrom L slots 0 n ≡ vertexWords (sheetOf L start)
-  unfolding recordsFrom
-  records-are = ap (each (vertexRecord L)) used-edges ∙ sym (vertex-words L start)
+  pub edges-length : length drawn ≡ length (S .edges)
+  edges-length = ap length (edges-by L (full .sized) k rows vis (s .sides) (s .cubes))
 
-  number-is : (k : ℕ) → k < n → T (isIn es k) → numberOf slots k ≡ rank es k
-  unfolding numberOf
-  number-is k h t =
-      let q : getD slots k 0 ≡ rank es k + 1 = slot-at L s start slots s₀ e k h ∙ ap (λ (b : Bool). cond b (rank es k + 1) 0) (T→eq (isIn es k) t) in
-      omega (arith, q)
+  pub vertices-are : (l : List ℤ) → 4 * length (S .edges) ≤ length l
+      → sets l (4 * (0 - 0)) (each (vertexRecord L) drawn) ≡ over (vertexWords S) l
+  vertices-are l h =
+      ap (λ (r : List ℤ). sets l 0 r) (records-are L (full .sized) k rows vis (s .sides) (s .cubes))
+      ∙ sets-front l (vertexWords S) (omega (arith, vertex-words-length L k))
 
-  -- the numbers of the sheet's triangles
-  pub words-are : (ts : List Tri) → ts ≡ sheetOf L start .byEdge → wordsFor slots ts ≡ triangleWords (sheetOf L start)
-  unfolding wordsFor triangleWords
-  words-are ts q =
-      let bs = sheetOf L start .byEdge in
-      ap (each (λ t. corners3 (byNumber slots t))) q
-      ∙ (each-same (λ t. corners3 (byNumber slots t)) (λ t. corners3 (numbered es t)) bs
-      (all-weak (Among es) (λ t. corners3 (byNumber slots t) ≡ corners3 (numbered es t)) (λ t h. ap corners3 (triangle-is t h)) bs (sheet-among L s start))
-      ∙ sym (ap (each corners3) (parts L start .triangles) ∙ each-map corners3 (numbered es) bs))
-    where
-      lt : (k : ℕ) → T (isIn es k) → k < n
-      lt k t = all-in (λ e. e < n) es (sheet-edges-lt L start) k t
+  pub past-slots : (slots : List ℕ) → Beyond (neededSlots (L .size)) slots (numbered 0 drawn slots)
+  past-slots = slots-beyond L (full .sized) k rows vis (s .sides) (s .cubes) 0
 
-      triangle-is : (t : Tri) → Among es t → byNumber slots t ≡ numbered es t
-      triangle-is t h =
-          let a = number-is (t .a) (lt (t .a) (h .a)) (h .a) in
-          let b = number-is (t .b) (lt (t .b) (h .b)) (h .b) in
-          let c = number-is (t .c) (lt (t .c) (h .c)) (h .c) in
-          unfold numbered in (λ i. tri (a i) (b i) (c i))
+  -- by the table of patterns, and the slots as they are numbered
+  module _ (slots : List ℕ) (room : neededSlots (L .size) ≤ length slots) (table counts : List ℕ)
+      (made : Tabled (stepsBy (L .size)) 256 table counts) (slots′ : List ℕ) (e : slots′ ≡ numbered 0 drawn slots) where
+    abbrev tiled : List ℕ
+    tiled = tilesBy (source table counts slots′) (L .size) rows vis
+
+    pub triangles-are : tiled ≡ triangleWords S
+    triangles-are =
+        tiles-by L k rows vis (s .sides) (s .cubes) (source table counts slots′) made (full .sized)
+        (λ n t. ap (λ (l : List ℕ). getD l n 0) e ∙ slots-rank L (full .sized) k rows vis (s .sides) (s .cubes) slots room n t)
+
+    pub triangles-length : length tiled ≡ 3 * length (S .triangles)
+    triangles-length = tiles-length L k rows vis (s .sides) (s .cubes) (source table counts slots′) made
+
+-- ── tests 6 and 7 ──
+
+module _ (L : Lattice) (rows vis : List ℕ) (c : Counts) (counts : Counted (L .size) rows vis c) where
+  -- the counts are the sheet's
+  counts-are : (k : ℕ) → Stands L k rows vis → c ≡ record { vertices = length (sheetOf L k .edges); triangles = length (sheetOf L k .triangles) }
+  counts-are k s =
+      let v = counts .vertices (L .values) k (s .sides) (s .cubes) in
+      let t = counts .triangles (L .values) k (s .sides) (s .cubes) in
+      λ i. record { vertices = v i; triangles = t i }
+
+  pub fits : (n vertices triangles : ℕ) → n ≡ judge (roomTests (c .vertices) (c .triangles) (vertices / 4) (triangles / 3)) .number
+      → n ≡ 0 → Fits L rows vis vertices triangles
+  fits n vertices triangles e z =
+      let r = room-tests (c .vertices) (c .triangles) (vertices / 4) (triangles / 3) (sym e ∙ z) in
+      record {
+        vertex-room = λ k s. omega (arith, r .0, counts .vertices (L .values) k (s .sides) (s .cubes));
+        triangle-room = λ k s. omega (arith, r .1, counts .triangles (L .values) k (s .sides) (s .cubes));
+      }
+
+  -- ── the answer, and what is left ──
+
+  module _ (k : ℕ) (s : Stands L k rows vis) (l : Lent) (visits n : ℕ) (seen : visits ≡ length (visited L k))
+      (e : n ≡ judge (roomTests (c .vertices) (c .triangles) (vertexRoom (l .vertices)) (triangleRoom (l .triangles))) .number) where
+    abbrev T′ : Sheet
+    T′ = sheetOf L k
+
+    number-is : n ≡ roomNumber T′ l
+    number-is =
+        e ∙ ap (λ (c : Counts). judge (roomTests (c .vertices) (c .triangles) (vertexRoom (l .vertices)) (triangleRoom (l .triangles))) .number) (counts-are k s)
+
+    pub builds-from : (o : Output) → Puts L rows vis n (output (l .vertices) (l .triangles)) o → (waiting slots : List ℕ)
+        → Beyond (needed (L .size)) (l .work .waiting) waiting → Beyond (neededSlots (L .size)) (l .work .slots) slots → (w : Work)
+        → w ≡ clean (L .size) (work (l .work .words) waiting slots)
+        → BuildsFrom L k l (record { number = n; vertices = c .vertices; triangles = c .triangles; cubes = visits }) (lent (o .vertices) (o .triangles) w)
+    builds-from o put waiting slots b d w clear =
+        let p = put .written k s in
+        let q = clear-beyond (needed (L .size)) (l .work .waiting) waiting b in
+        let r = clear-beyond (neededSlots (L .size)) (l .work .slots) slots d in
+        let v = p .vertices ∙ ap (λ (n : ℕ). outputAfter n (vertexWords T′) (l .vertices)) number-is in
+        let t = p .triangles ∙ ap (λ (n : ℕ). outputAfter n (triangleWords T′) (l .triangles)) number-is in
+        let f = clear ∙ (λ i. work (cleared (needed (L .size)) (l .work .words)) (q i) (r i)) in
+        let seen′ = seen ∙ sym (parts L k .visits) in
+        record {
+          answer = λ i. let d = counts-are k s i in record { number = number-is i; vertices = d .vertices; triangles = d .triangles; cubes = seen′ i };
+          left = λ i. lent (v i) (t i) (f i);
+        }

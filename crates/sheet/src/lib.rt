@@ -1,20 +1,20 @@
 // Building one sheet.
-use measure::Counts;
 use paper::Built;
 use paper::Sizes;
 use paper::Start;
+use tally::Counts;
 ghost use mathlib.Core.Path.{_≡_};
-ghost use Prim.Native.Nat.{_*_, _/_, _≤_};
+ghost use Prim.Native.Nat.{_*_, _/_, _≤_, _<_};
 ghost use lib.ListN.{length};
+ghost use Rattle.lists.specs.Lists.{Beyond};
 ghost use Rattle.paper.specs.Lattice.{lattice, cubes};
 ghost use Rattle.paper.specs.Tests.{judge};
-ghost use Rattle.paper.specs.Room.{work, needed, neededSlots, roomTests, outputAfter};
+ghost use Rattle.paper.specs.Room.{work, lengths, neededSlots, roomTests};
 ghost use Rattle.paper.specs.Build.{lent, Builds};
-ghost use Rattle.paper.specs.Within.{Full};
-ghost use Rattle.survey.specs.Marks.{trianglesUpto};
-ghost use Rattle.measure.specs.Crossed.{AllCross};
-ghost use Rattle.vertices.specs.Records.{usedFrom, recordsFrom};
-ghost use Rattle.triangles.specs.Named.{wordsFor};
+ghost use Rattle.paper.specs.Within.{Full, Roomy};
+ghost use Rattle.rows.specs.Rows.{HasRows};
+ghost use Rattle.spread.specs.Flooded.{Standing};
+ghost use Rattle.sheet.specs.Output.{output, Fits, Puts, BuildsFrom};
 
 // Tests 6 and 7, for counts and the lengths of the lent output: the number of the first that fails, or 0.
 fn room_number(c: Counts, vertices: usize, triangles: usize) -> usize
@@ -29,26 +29,78 @@ fn room_number(c: Counts, vertices: usize, triangles: usize) -> usize
     0
 }
 
-// The vertices and triangles of what is measured are written, where the number is 0.
+// The vertices and triangles of the visited cubes are written, where the number is 0.
 fn put_sheet(
     number: usize,
     samples: &[i16],
     sizes: Sizes,
-    words: &[u16],
-    slots: &[u32],
+    rows: &[u64],
+    vis: &[u64],
+    slots: &mut [u32],
     vertices: &mut [i32],
     triangles: &mut [u32],
 )
-    requires { ⌜ Full (lattice sizes (now samples)) × AllCross (lattice sizes (now samples)) (now slots) ⌝ }
-    requires { ⌜ (needed sizes ≤ length (now words)) × (neededSlots sizes ≤ length (now slots)) ⌝ }
-    requires { ⌜ (number ≡ 0 → 4 * length (usedFrom (now slots) 0 (neededSlots sizes)) ≤ length (now vertices)) × (number ≡ 0 → 3 * length (trianglesUpto sizes (now words) (cubes sizes)) ≤ length (now triangles)) ⌝ }
-    ensures { λ _. ⌜ (now (vertices .exit) ≡ outputAfter number (recordsFrom (lattice sizes (now (samples .entry))) (now (slots .entry)) 0 (neededSlots sizes)) (now (vertices .entry))) × (now (triangles .exit) ≡ outputAfter number (wordsFor (now (slots .entry)) (trianglesUpto sizes (now (words .entry)) (cubes sizes))) (now (triangles .entry))) ⌝ }
+    requires { ⌜ Full (lattice sizes (now samples)) × Standing (lattice sizes (now samples)) (now rows) (now vis) ⌝ }
+    requires { ⌜ (sizes .ny * sizes .nz ≤ length (now vis)) × (neededSlots sizes ≤ length (now slots)) ⌝ }
+    requires { let L = lattice sizes (now samples) in
+        ⌜ (number ≡ 0 → Fits L (now rows) (now vis) (length (now vertices)) (length (now triangles))) ⌝ }
+    ensures { λ _.
+        let L = lattice sizes (now (samples .entry)) in
+        let before = output (now (vertices .entry)) (now (triangles .entry)) in
+        let after = output (now (vertices .exit)) (now (triangles .exit)) in
+        ⌜ Puts L (now (rows .entry)) (now (vis .entry)) number before after
+        × Beyond (neededSlots sizes) (now (slots .entry)) (now (slots .exit)) ⌝ }
 {
     if number != 0 {
         return;
     }
-    vertices::put_vertices(samples, sizes, slots, vertices);
-    triangles::put_triangles(words, sizes, slots, triangles);
+    let mut table = [0u16; 9216];
+    let mut counts = [0usize; 256];
+    patterns::pattern_table(sizes, &mut table[..], &mut counts[..]);
+    dots::put_vertices(samples, sizes, rows, vis, slots, vertices);
+    tiles::put_triangles(&table[..], &counts[..], slots, rows, vis, sizes, triangles);
+}
+
+// The sheet from cube k of a lattice that has these rows of sides, past tests 1 to 5.
+fn build_from(
+    samples: &[i16],
+    sizes: Sizes,
+    k: usize,
+    rows: &[u64],
+    vertices: &mut [i32],
+    triangles: &mut [u32],
+    words: &mut [u16],
+    waiting: &mut [u32],
+    slots: &mut [u32],
+) -> Built
+    requires { let L = lattice sizes (now samples) in
+        ⌜ Full L × HasRows L (now rows) × (k < cubes sizes) × Roomy sizes (lengths (work (now words) (now waiting) (now slots))) ⌝ }
+    ensures { λ r.
+        let before = lent (now (vertices .entry)) (now (triangles .entry)) (work (now (words .entry)) (now (waiting .entry)) (now (slots .entry))) in
+        let after = lent (now (vertices .exit)) (now (triangles .exit)) (work (now (words .exit)) (now (waiting .exit)) (now (slots .exit))) in
+        ⌜ BuildsFrom (lattice sizes (now (samples .entry))) k before r after ⌝ }
+{
+    let mut vis = [0u64; 4096];
+    let visits = spread::visit(rows, sizes, k, &mut vis[..], waiting);
+    let c = tally::counts_of(rows, &vis[..], sizes);
+    let number = room_number(c, vertices.len(), triangles.len());
+    put_sheet(
+        number,
+        samples,
+        sizes,
+        rows,
+        &vis[..],
+        slots,
+        vertices,
+        triangles,
+    );
+    clear::clear_work(sizes, words, waiting, slots);
+    Built {
+        number: number,
+        vertices: c.vertices,
+        triangles: c.triangles,
+        cubes: visits,
+    }
 }
 
 // The sheet of a lattice from a start cube, or the number of the first test that fails.
@@ -67,6 +119,7 @@ pub fn build(
         let after = lent (now (vertices .exit)) (now (triangles .exit)) (work (now (words .exit)) (now (waiting .exit)) (now (slots .exit))) in
         ⌜ Builds (lattice sizes (now (samples .entry))) start before r after ⌝ }
 {
+    let mut rows = [0u64; 4096];
     let b = ready::begin(
         samples,
         sizes,
@@ -74,6 +127,7 @@ pub fn build(
         words.len(),
         waiting.len(),
         slots.len(),
+        &mut rows[..],
     );
     if b.number != 0 {
         return Built {
@@ -83,14 +137,15 @@ pub fn build(
             cubes: 0,
         };
     }
-    let c = measure::measure(samples, sizes, b.cube, words, waiting, slots);
-    let number = room_number(c, vertices.len(), triangles.len());
-    put_sheet(number, samples, sizes, words, slots, vertices, triangles);
-    measure::clear_work(sizes, words, waiting, slots);
-    Built {
-        number: number,
-        vertices: c.vertices,
-        triangles: c.triangles,
-        cubes: c.cubes,
-    }
+    build_from(
+        samples,
+        sizes,
+        b.cube,
+        &rows[..],
+        vertices,
+        triangles,
+        words,
+        waiting,
+        slots,
+    )
 }

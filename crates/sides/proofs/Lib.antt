@@ -1,4 +1,3 @@
--- Laws of patterns, and of words of digits; the search for the lowest crossed cube.
+-- Laws of patterns (Laws), and of words of digits (Digits).
 pub mod Digits
 pub mod Laws
-pub mod Search

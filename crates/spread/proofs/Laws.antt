@@ -13,8 +13,8 @@ use Rattle.lists.proofs.Stores.{beyond-refl, beyond-trans, beyond-set}
 use Rattle.lists.specs.Lists.{range, keep, consIf, Beyond}
 use lib.Bits.{bitAnd, bitOr, or-add-and, and-le-l}
 use lib.Count.{ones, ones-le}
-use lib.ListN.{length, getD, set, length-set}
-use lib.Seq.{drop-set-lt, getD-set-same, getD-set-other}
+use lib.ListN.{length, getD, set}
+use lib.Seq.{getD-set-same, getD-set-other}
 use borrow.Author.Tests.{eqb-true, eqb-false}
 use Rattle.bits.specs.Words.{On, less}
 use Rattle.bits.proofs.Places.{on-zero, ones-zero, on-or-left, on-or-right, or-on}

@@ -17,7 +17,6 @@ use Rattle.lists.proofs.Rising.{keep-le}
 use Rattle.lists.proofs.Closure.{length-range}
 use Rattle.paper.specs.declared.Sizes.{Sizes}
 use Rattle.paper.specs.Within.{Sized}
-use Rattle.paper.specs.Lattice.{cubes}
 use Rattle.rows.specs.declared.Quad.{Quad}
 use Rattle.rows.specs.Rows.{faceRow}
 use Rattle.spread.specs.declared.Out.{Out}
@@ -247,10 +246,3 @@ module _ (z : Sizes) (s : Sized z) where
 
   pub rows-some : 0 < rowsOf z
   rows-some = mul-pos (omega (arith, s .y-low)) (omega (arith, s .z-low))
-
-  -- a list of one entry for each cube is long enough
-  pub rows-le : rowsOf z ≤ cubes z
-  unfolding cubes
-  rows-le =
-      let h : 1 ≤ z .nx - 1 = omega (arith, s .x-low) in
-      omega (arith, mul-le-mul-right (rowsOf z) h)

@@ -5,11 +5,12 @@ use mathlib.Core.List.{List, [], _++_}
 use Prim.Native.Nat.{ℕ, suc, _+_, _-_, _*_, _/_, _%_, _^_, _≤_, _<_}
 use lib.Dec.{ltb}
 use lib.IntN.{ℤ}
-use lib.ListN.{length, getD, drop}
+use lib.ListN.{length, getD}
 use Rattle.lists.specs.Lists.{range, consIf, each, Beyond}
 use Rattle.lists.specs.Reach.{Reach, reached}
 use Rattle.paper.specs.declared.Sizes.{Sizes}
-use Rattle.paper.specs.Lattice.{Lattice, lattice, visited}
+use Rattle.paper.specs.Lattice.{Lattice, lattice, cubes, visited}
+use Rattle.paper.specs.Room.{needed}
 use Rattle.bits.specs.Words.{bit, On}
 use Rattle.rows.specs.Rows.{HasRows, HasCubes}
 use Rattle.spread.specs.Plan.{Plan}
@@ -67,3 +68,21 @@ pub record Spreads (z : Sizes) (rows : List ℕ) (start : ℕ) (before after : R
   pub visits : (s : List ℤ) → HasRows (lattice z s) rows → Visits (lattice z s) start (after .vis) count
   pub on-vis : Beyond (words z) (before .vis) (after .vis)
   pub on-waiting : Beyond (rowsOf z) (before .waiting) (after .waiting)
+
+-- rows are those of the sides, vis those of the cubes visited from a start
+pub record Stands (L : Lattice) (start : ℕ) (rows vis : List ℕ) : Type 0 where
+  pub below : start < cubes (L .size)
+  pub sides : HasRows L rows
+  pub cubes : HasCubes (L .size) (visited L start) vis
+
+-- from some start
+pub record Standing (L : Lattice) (rows vis : List ℕ) : Type 0 where
+  pub start : ℕ
+  pub stands : Stands L start rows vis
+
+-- the cubes visited from cube k, of any lattice that has these rows of sides, and how many they are; no more than the needed front of the
+-- waiting list changes
+pub record Finds (z : Sizes) (rows : List ℕ) (k : ℕ) (vis waiting waiting′ : List ℕ) (count : ℕ) : Type 0 where
+  pub stands : (s : List ℤ) → HasRows (lattice z s) rows → Stands (lattice z s) k rows vis
+  pub number : (s : List ℤ) → HasRows (lattice z s) rows → count ≡ length (visited (lattice z s) k)
+  pub beyond : Beyond (needed z) waiting waiting′

@@ -6,13 +6,14 @@ ghost use mathlib.Core.Path.{_≡_};
 ghost use mathlib.Core.Bool.{true};
 ghost use Prim.Native.Nat.{_+_, _-_, _≤_, _<_};
 ghost use lib.ListN.{length, getD};
-ghost use Rattle.paper.specs.Lattice.{cubeNo};
+ghost use Rattle.paper.specs.Lattice.{cubes, cubeNo};
+ghost use Rattle.paper.specs.Room.{needed};
 ghost use Rattle.paper.specs.Within.{Sized, CubeIn};
 ghost use Rattle.bits.specs.Words.{less};
 ghost use Rattle.spread.specs.Along.{Filled};
 ghost use Rattle.spread.specs.Flow.{flow, wait, sends, Roomy};
 ghost use Rattle.spread.specs.Ways.{gateBy, wayBy, wayAt, doorBy, besideBy, words, rowsOf, isRow, RowIn, planOf};
-ghost use Rattle.spread.specs.Flooded.{room, Empty, cell, Flooded, Spreads};
+ghost use Rattle.spread.specs.Flooded.{room, Empty, cell, Flooded, Spreads, Finds};
 
 // A way out of a row of cubes.
 pub struct Out {
@@ -201,4 +202,14 @@ pub fn flood_from(rows: &[u64], z: Sizes, at: Place, vis: &mut [u64], waiting: &
         &mut due[..],
         waiting,
     )
+}
+
+// The visited cubes from cube k; how many they are is returned.
+pub fn visit(rows: &[u64], z: Sizes, k: usize, vis: &mut [u64], waiting: &mut [u32]) -> usize
+    requires { ⌜ Sized z × (k < cubes z) × (words z ≤ length (now rows)) ⌝ }
+    requires { ⌜ Empty (words z) (now vis) × (needed z ≤ length (now waiting)) ⌝ }
+    ensures { λ r. ⌜ Finds z (now (rows .entry)) k (now (vis .exit)) (now (waiting .entry)) (now (waiting .exit)) r ⌝ }
+{
+    let at = lattice::cube_at(z, k);
+    flood_from(rows, z, at, vis, waiting)
 }

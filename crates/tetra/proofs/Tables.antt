@@ -12,7 +12,7 @@ use Rattle.paper.specs.declared.Sizes.{Sizes}
 use Rattle.paper.specs.Tables.{tets, rows, tetEdges, low}
 use Rattle.paper.specs.Sheet.{corners3}
 use Rattle.paper.proofs.Tables.{row-short}
-use Rattle.tetra.specs.Cut.{tetAt, tetCorner, tetEnds, rowCount, rowEdge, rowTriangles, locals, localAt}
+use Rattle.tetra.specs.Cut.{tetAt, tetCorner, tetEnds, rowCount, rowEdge, rowTriangles}
 
 -- the entries of a table are f's
 unfoldable pub tabled : (ℕ → ℕ → ℕ) → ℕ → ℕ → List (List ℕ) → Bool
@@ -51,8 +51,3 @@ number-lt r j hr hj = ltb→lt (rowNumber r j) 7 (grid-at 16 6 (λ r j. ltb (row
 pub edge-six : (r j : ℕ) → r < 16 → j < 6 → rowEdge r j < 6
 unfolding rowEdge rowNumber
 edge-six r j hr hj = omega (arith, number-lt r j hr hj)
-
--- the 19 edges
-pub local-lt : (j k : ℕ) → j < 19 → k < 4 → localAt j k < 8
-unfolding localAt locals
-local-lt j k hj hk = ltb→lt (localAt j k) 8 (grid-at 19 4 (λ j k. ltb (localAt j k) 8) tt j k hj hk)

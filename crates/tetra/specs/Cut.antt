@@ -1,10 +1,8 @@
 -- A cube's edges and triangles, by its pattern and its lowest sample. Assumes nothing.
-use mathlib.Core.Bool.{Bool, not}
 use mathlib.Core.List.{List, [], _∷_, map}
 use Prim.Native.Nat.{ℕ, _+_, _-_, _*_, _/_, _%_}
-use lib.Dec.{eqb}
 use lib.ListN.{length, getD}
-use Rattle.lists.specs.Lists.{range, keep, each}
+use Rattle.lists.specs.Lists.{range, each}
 use Rattle.paper.specs.declared.Sizes.{Sizes}
 use Rattle.paper.specs.Tables.{Ends, Tet, Tri, ends, tet, tri, tets, rows, tetEdges, low, kindOf}
 use Rattle.paper.specs.Sheet.{corners3}
@@ -63,44 +61,3 @@ rowTriangles z base t r =
 -- the triangles of a cube with pattern m
 unfoldable pub trianglesBy : Sizes → ℕ → ℕ → List Tri
 trianglesBy z base m = each (λ t. rowTriangles z base t (rowBy m t)) (range 0 6)
-
--- the 19 edges of a cube's tetrahedra: the corner at the anchor, the kind, and the corners at the ends
-unfoldable pub locals : List (List ℕ)
-locals =
-    (0 ∷ 0 ∷ 0 ∷ 1 ∷ [])
-    ∷ (0 ∷ 1 ∷ 0 ∷ 2 ∷ [])
-    ∷ (0 ∷ 2 ∷ 0 ∷ 4 ∷ [])
-    ∷ (0 ∷ 3 ∷ 2 ∷ 4 ∷ [])
-    ∷ (0 ∷ 4 ∷ 1 ∷ 4 ∷ [])
-    ∷ (0 ∷ 5 ∷ 2 ∷ 1 ∷ [])
-    ∷ (0 ∷ 6 ∷ 3 ∷ 4 ∷ [])
-    ∷ (1 ∷ 1 ∷ 1 ∷ 3 ∷ [])
-    ∷ (1 ∷ 2 ∷ 1 ∷ 5 ∷ [])
-    ∷ (1 ∷ 3 ∷ 3 ∷ 5 ∷ [])
-    ∷ (2 ∷ 0 ∷ 2 ∷ 3 ∷ [])
-    ∷ (2 ∷ 2 ∷ 2 ∷ 6 ∷ [])
-    ∷ (2 ∷ 4 ∷ 3 ∷ 6 ∷ [])
-    ∷ (3 ∷ 2 ∷ 3 ∷ 7 ∷ [])
-    ∷ (4 ∷ 0 ∷ 4 ∷ 5 ∷ [])
-    ∷ (4 ∷ 1 ∷ 4 ∷ 6 ∷ [])
-    ∷ (4 ∷ 5 ∷ 6 ∷ 5 ∷ [])
-    ∷ (5 ∷ 1 ∷ 5 ∷ 7 ∷ [])
-    ∷ (6 ∷ 0 ∷ 6 ∷ 7 ∷ [])
-    ∷ []
-
-unfoldable pub localAt : ℕ → ℕ → ℕ
-localAt j k = getD (getD locals j []) k 0
-
--- the ends of edge j are on different sides in a cube with pattern m
-unfoldable pub localSplit : ℕ → ℕ → Bool
-localSplit m j = not (eqb (bitOf m (localAt j 2)) (bitOf m (localAt j 3)))
-
-unfoldable pub localStep : Sizes → ℕ → ℕ
-localStep z j = 7 * cornerStep z (localAt j 0) + localAt j 1
-
-unfoldable pub localSteps : Sizes → List ℕ
-localSteps z = map (localStep z) (range 0 19)
-
--- the side-changing edges of a cube with pattern m
-unfoldable pub edgesBy : Sizes → ℕ → ℕ → List ℕ
-edgesBy z base m = map (λ j. base + localStep z j) (keep (localSplit m) (range 0 19))

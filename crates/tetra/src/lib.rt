@@ -7,7 +7,7 @@ ghost use Rattle.paper.specs.Tables.{tri};
 ghost use Rattle.paper.specs.Within.{Sized};
 ghost use Rattle.lattice.specs.Steps.{cornerStep};
 ghost use Rattle.sides.specs.Pattern.{bitOf};
-ghost use Rattle.tetra.specs.Cut.{tetCorner, tetCorners, tetSteps, rowBy, rowCount, rowSteps, rowTriangles, triOf, localAt, localSplit, localSteps};
+ghost use Rattle.tetra.specs.Cut.{tetCorner, tetCorners, tetSteps, rowBy, rowCount, rowSteps, rowTriangles, triOf};
 
 // A triangle by its lattice edges.
 pub struct Triangle {
@@ -67,18 +67,6 @@ const KINDS: [[usize; 6]; 6] = [
     [6, 4, 3, 1, 0, 5],
     [4, 2, 3, 0, 5, 1],
 ];
-
-// The corners at the anchors of the 19 edges of a cube's tetrahedra: octal digit j, from the right, is that of edge j.
-const LOCAL_LOWS: usize = 0o6544432221110000000;
-
-// Their kinds, likewise.
-const LOCAL_KINDS: usize = 0o0151024203216543210;
-
-// Their first ends, likewise.
-const LOCAL_FIRSTS: usize = 0o6564433223113212000;
-
-// Their second ends, likewise.
-const LOCAL_SECONDS: usize = 0o7756576635534144421;
 
 // Corners a to d of all tetrahedra, four to each.
 pub fn tet_corners() -> [usize; 24]
@@ -201,36 +189,4 @@ pub fn row_triangle(
         b: base + steps[at + 1],
         c: base + steps[at + 2],
     }
-}
-
-// The corner at the anchor of edge j of the 19, its kind, and the corners at its ends.
-fn local_at(j: usize, k: usize) -> usize
-    requires { ⌜ (j < 19) × (k < 4) ⌝ }
-    ensures { λ r. ⌜ (r ≡ localAt j k) × (r < 8) ⌝ }
-{
-    sides::digit_of(LOCAL_LOWS, LOCAL_KINDS, LOCAL_FIRSTS, LOCAL_SECONDS, k, j)
-}
-
-// Whether the ends of edge j of the 19 are on different sides in a cube with pattern m.
-pub fn local_split(m: usize, j: usize) -> bool
-    requires { ⌜ j < 19 ⌝ }
-    ensures { λ r. ⌜ r ≡ localSplit m j ⌝ }
-{
-    let a = sides::bit(m, local_at(j, 2));
-    let b = sides::bit(m, local_at(j, 3));
-    a != b
-}
-
-// How far the numbers of the 19 edges are from 7 × the number of the cube's lowest sample.
-pub fn local_steps(sizes: Sizes) -> [usize; 19]
-    requires { ⌜ Sized sizes ⌝ }
-    ensures { λ r. ⌜ r ≡ localSteps sizes ⌝ }
-{
-    let mut steps = [0usize; 19];
-    let mut i = 0;
-    while i < 19 {
-        steps[i] = step_of(sizes, local_at(i, 0), local_at(i, 1));
-        i += 1;
-    }
-    steps
 }

@@ -1,13 +1,14 @@
--- The numbers of a row of cubes' triangles, from the table of patterns and the edges' slots. Assumes nothing.
+-- The numbers of the cubes' triangles, row by row, from the table of patterns and the edges' slots. Assumes nothing.
 use mathlib.Core.Bool.{cond}
 use mathlib.Core.List.{List, [], map}
-use Prim.Native.Nat.{ℕ, _+_, _*_, _≤_, _<_}
+use Prim.Native.Nat.{ℕ, _+_, _-_, _*_, _≤_, _<_}
 use lib.Dec.{T}
 use lib.ListN.{getD}
 use Rattle.lists.specs.Lists.{range, each}
+use Rattle.paper.specs.declared.Sizes.{Sizes}
 use Rattle.bits.specs.Words.{bit}
 use Rattle.rows.specs.declared.Quad.{Quad}
-use Rattle.rows.specs.Rows.{patternIn}
+use Rattle.rows.specs.Rows.{quadAt, patternIn}
 
 -- a table of patterns, how many entries each has, and the slots of edges
 pub record Source : Type 0 where
@@ -34,6 +35,17 @@ tileAt S q v base x = cond (bit v x) (tileOf S (patternIn q x) (base + 7 * x)) [
 
 unfoldable pub rowTiles : Source → Quad → ℕ → ℕ → ℕ → List ℕ
 rowTiles S q v base n = each (tileAt S q v base) (range 0 n)
+
+-- those of the row of cubes at y and z, by all rows of sides and of visited cubes; of layer z, and of all
+unfoldable pub rowTilesAt : Source → Sizes → List ℕ → List ℕ → ℕ → ℕ → List ℕ
+rowTilesAt S n rows vis y z =
+    rowTiles S (quadAt rows (n .ny) (y + n .ny * z)) (getD vis (y + n .ny * z) 0) (7 * (n .nx * (y + n .ny * z))) (n .nx - 1)
+
+unfoldable pub layerTiles : Source → Sizes → List ℕ → List ℕ → ℕ → List ℕ
+layerTiles S n rows vis z = each (λ y. rowTilesAt S n rows vis y z) (range 0 (n .ny - 1))
+
+unfoldable pub tilesBy : Source → Sizes → List ℕ → List ℕ → List ℕ
+tilesBy S n rows vis = each (layerTiles S n rows vis) (range 0 (n .nz - 1))
 
 -- a cube with pattern m has at most 36 numbers, and its edges have slots
 pub record Reaching (S : Source) (long m base : ℕ) : Type 0 where

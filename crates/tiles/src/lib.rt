@@ -1,10 +1,15 @@
 // The triangles of rows of cubes, written from the table of patterns.
+use paper::Sizes;
 use rows::Quad;
 ghost use mathlib.Core.Path.{_≡_};
-ghost use Prim.Native.Nat.{_+_, _≤_, _<_};
+ghost use Prim.Native.Nat.{_+_, _*_, _≤_, _<_};
 ghost use lib.ListN.{length};
 ghost use lib.Seq.{sets};
-ghost use Rattle.tiles.specs.Tiles.{source, sizeOf, tileOf, tileAt, rowTiles, Reaching, RowReaching};
+ghost use Rattle.lists.specs.Lists.{over};
+ghost use Rattle.paper.specs.Room.{neededSlots};
+ghost use Rattle.paper.specs.Within.{Sized};
+ghost use Rattle.patterns.specs.Table.{stepsBy, Tabled};
+ghost use Rattle.tiles.specs.Tiles.{source, sizeOf, tileOf, tileAt, rowTiles, rowTilesAt, layerTiles, tilesBy, Reaching, RowReaching};
 
 // The triangles of a cube with pattern m, from place `at` on; the next place is returned.
 fn put_cube(
@@ -84,4 +89,107 @@ pub fn put_row(
         x += 1;
     }
     next
+}
+
+// The triangles of the row of cubes at y and z.
+pub fn put_row_at(
+    table: &[u16],
+    counts: &[usize],
+    slots: &[u32],
+    rows: &[u64],
+    vis: &[u64],
+    sizes: Sizes,
+    y: usize,
+    z: usize,
+    out: &mut [u32],
+    at: usize,
+) -> usize
+    requires { ⌜ Sized sizes × Tabled (stepsBy sizes) 256 (now table) (now counts) × (neededSlots sizes ≤ length (now slots)) ⌝ }
+    requires { let n = sizes .ny * sizes .nz in
+        ⌜ (n ≤ length (now rows)) × (n ≤ length (now vis)) × (y + 1 < sizes .ny) × (z + 1 < sizes .nz) ⌝ }
+    requires { let S = source (now table) (now counts) (now slots) in
+        ⌜ at + length (rowTilesAt S sizes (now rows) (now vis) y z) ≤ length (now out) ⌝ }
+    ensures { λ k.
+        let S = source (now (table .entry)) (now (counts .entry)) (now (slots .entry)) in
+        let new = rowTilesAt S sizes (now (rows .entry)) (now (vis .entry)) y z in
+        ⌜ (now (out .exit) ≡ sets (now (out .entry)) at new) × (k ≡ at + length new) ⌝ }
+{
+    let r = y + sizes.ny * z;
+    let v = vis[r];
+    if v == 0 {
+        return at;
+    }
+    let q = rows::quad_at(rows, sizes.ny, r);
+    put_row(
+        table,
+        counts,
+        slots,
+        q,
+        v,
+        7 * (sizes.nx * r),
+        sizes.nx - 1,
+        out,
+        at,
+    )
+}
+
+// The triangles of the cubes of layer z.
+fn put_layer(
+    table: &[u16],
+    counts: &[usize],
+    slots: &[u32],
+    rows: &[u64],
+    vis: &[u64],
+    sizes: Sizes,
+    z: usize,
+    out: &mut [u32],
+    at: usize,
+) -> usize
+    requires { ⌜ Sized sizes × Tabled (stepsBy sizes) 256 (now table) (now counts) × (neededSlots sizes ≤ length (now slots)) ⌝ }
+    requires { let n = sizes .ny * sizes .nz in
+        ⌜ (n ≤ length (now rows)) × (n ≤ length (now vis)) × (z + 1 < sizes .nz) ⌝ }
+    requires { let S = source (now table) (now counts) (now slots) in
+        ⌜ at + length (layerTiles S sizes (now rows) (now vis) z) ≤ length (now out) ⌝ }
+    ensures { λ k.
+        let S = source (now (table .entry)) (now (counts .entry)) (now (slots .entry)) in
+        let new = layerTiles S sizes (now (rows .entry)) (now (vis .entry)) z in
+        ⌜ (now (out .exit) ≡ sets (now (out .entry)) at new) × (k ≡ at + length new) ⌝ }
+{
+    let n = sizes.ny - 1;
+    let mut next = at;
+    let mut y = 0;
+    while y < n {
+        next = put_row_at(table, counts, slots, rows, vis, sizes, y, z, out, next);
+        y += 1;
+    }
+    next
+}
+
+// The triangles of all cubes that vis has are written to the front of a triangle slice.
+pub fn put_triangles(
+    table: &[u16],
+    counts: &[usize],
+    slots: &[u32],
+    rows: &[u64],
+    vis: &[u64],
+    sizes: Sizes,
+    triangles: &mut [u32],
+)
+    requires { ⌜ Sized sizes × Tabled (stepsBy sizes) 256 (now table) (now counts) × (neededSlots sizes ≤ length (now slots)) ⌝ }
+    requires { let n = sizes .ny * sizes .nz in
+        ⌜ (n ≤ length (now rows)) × (n ≤ length (now vis)) ⌝ }
+    requires { let S = source (now table) (now counts) (now slots) in
+        ⌜ length (tilesBy S sizes (now rows) (now vis)) ≤ length (now triangles) ⌝ }
+    ensures { λ _.
+        let S = source (now (table .entry)) (now (counts .entry)) (now (slots .entry)) in
+        let new = tilesBy S sizes (now (rows .entry)) (now (vis .entry)) in
+        ⌜ now (triangles .exit) ≡ over new (now (triangles .entry)) ⌝ }
+{
+    let n = sizes.nz - 1;
+    let mut at = 0;
+    let mut z = 0;
+    while z < n {
+        at = put_layer(table, counts, slots, rows, vis, sizes, z, triangles, at);
+        z += 1;
+    }
 }

@@ -17,17 +17,16 @@ use Rattle.lists.proofs.Firsts.{first-holds}
 use Rattle.lists.proofs.Computed.{upto-at}
 use Rattle.paper.specs.declared.Sizes.{Sizes}
 use Rattle.paper.specs.declared.Place.{Place}
-use Rattle.paper.specs.Lattice.{place, sampleNo, cubes, cubeAt}
+use Rattle.paper.specs.Lattice.{place, sampleNo, cubes, cubeNo, cubeAt}
 use Rattle.paper.specs.Tables.{Tri}
 use Rattle.paper.specs.Check.{triangleOf}
 use Rattle.paper.specs.Within.{Sized}
 use Rattle.paper.proofs.Judged.{both}
-use Rattle.paper.proofs.Numbers.{sample-lt, cube-lt, cube-inside}
+use Rattle.paper.proofs.Numbers.{sample-lt, cube-lt, cube-inside, cube-place}
 use Rattle.lattice.proofs.Laws.{low-in, samples-few}
 use Rattle.sides.specs.Pattern.{bitOf}
-use Rattle.survey.specs.Marks.{baseOf}
-use Rattle.survey.proofs.Cubes.{first-cube}
 use Rattle.records.specs.Records.{edgeIn}
+use Rattle.triples.specs.Words.{baseOf}
 use Rattle.triples.specs.declared.Spot.{Spot}
 use Rattle.triples.specs.Triples.{holder, isAt, placeFrom, placeBy, placeIn, placeOf, Sure, Based, Found, fresh, noted, freshAt, notedAt, Small, seenAfter}
 
@@ -168,13 +167,19 @@ noted-small z words seen t h f s = record { at = λ k l. go k l (ℕ-discrete k 
 -- ── the spot of a triangle ──
 
 -- the first cube, and what it is based on
-pub based-first : (z : Sizes) → Sized z → Based z (record { cube = 0; base = 0; place = 12 })
+first-cube : (z : Sizes) → Sized z → place 0 0 0 ≡ cubeAt z 0
+unfolding cubeNo
+first-cube z s =
+    sym (cube-place z (place 0 0 0) (omega (arith, s .x-low)) (omega (arith, s .y-low))) ∙ ap (cubeAt z) (omega arith)
+
+pub based-first : (z : Sizes) (words : List ℕ) → Sized z → Based z words (record { cube = 0; base = 0; word = 0; place = 12 })
 unfolding baseOf sampleNo
-based-first z s =
+based-first z words s =
     let h = cube-lt z (place 0 0 0) (record { x = omega (arith, s .x-low); y = omega (arith, s .y-low); z = omega (arith, s .z-low) }) in
     record {
       cube = omega arith;
       base = (let e : 0 ≡ 7 * (0 + z .nx * (0 + z .ny * 0)) = omega arith in e) ∙ ap (λ (p : Place). 7 * sampleNo z p) (first-cube z s);
+      word = λ q. absurd (q refl);
     }
 
 pub base-few : (z : Sizes) → Sized z → (k : ℕ) → k < cubes z → baseOf z k ≤ 2000000
@@ -192,15 +197,20 @@ module _ (z : Sizes) (words : List ℕ) (k : ℕ) (t : Tri) where
       go false = refl
 
   -- what any search finds in a cube is where the triangle is
-  pub near-found : (i r : ℕ) → Sure z words → k < cubes z → r ≡ cond (eqb (getD words k 0) 0) 12 (placeFrom z (baseOf z k) (getD words k 0 % 256) t i) → r < 12
+  pub near-found : (i word r : ℕ) → Sure z words → k < cubes z → ((word ≡ 0 → ⊥) → word ≡ getD words k 0)
+      → r ≡ cond (eqb word 0) 12 (placeFrom z (baseOf z k) (word % 256) t i) → r < 12
       → (holder z t ≡ k) × (placeOf z words t ≡ r)
-  near-found i r s hk e h = go (eqb (getD words k 0) 0) refl e
+  near-found i word r s hk is e h = go (eqb word 0) refl e
     where
-      go : (b : Bool) → eqb (getD words k 0) 0 ≡ b → r ≡ cond b 12 (placeFrom z (baseOf z k) (getD words k 0 % 256) t i) → (holder z t ≡ k) × (placeOf z words t ≡ r)
+      go : (b : Bool) → eqb word 0 ≡ b → r ≡ cond b 12 (placeFrom z (baseOf z k) (word % 256) t i) → (holder z t ≡ k) × (placeOf z words t ≡ r)
       go true q e = absurd (omega arith)
       go false q e =
-          s .at k r t hk h (eqb-false (getD words k 0) 0 q)
-          (subst (λ (c : ℕ). isAt z (baseOf z k) (getD words k 0 % 256) t c ≡ true) (sym e) (from-holds z (baseOf z k) (getD words k 0 % 256) t i (omega arith)))
+          let some = eqb-false word 0 q in
+          let w = is some in
+          s .at k r t hk h (λ o. some (w ∙ o))
+          (subst (λ (n : ℕ). isAt z (baseOf z k) (n % 256) t r ≡ true) w
+          (subst (λ (c : ℕ). isAt z (baseOf z k) (word % 256) t c ≡ true) (sym e)
+          (from-holds z (baseOf z k) (word % 256) t i (omega arith))))
 
 module _ (z : Sizes) (words seen : List ℕ) (t : Tri) (s : Spot) (f : Found z words t s) where
   pub found-fresh : freshAt seen s ≡ fresh z words seen t

@@ -30,10 +30,9 @@ use Rattle.pairing.proofs.Turned.{is-turned, turned-is, back, along}
 use Rattle.sides.specs.Pattern.{bitOf}
 use Rattle.tetra.specs.Cut.{rowBy, rowCount, rowTriangles, trianglesBy}
 use Rattle.tetra.proofs.Tables.{count-le, row-length}
-use Rattle.flood.specs.Flooded.{wordOf}
-use Rattle.survey.specs.Marks.{baseOf}
-use Rattle.survey.proofs.Cubes.{Worded, worded}
+use Rattle.triples.specs.Words.{baseOf, wordOf}
 use Rattle.triples.specs.Triples.{holder, isAt, placeBy, placeIn, placeOf, fresh, noted, seenAfter, badIn, firstBadIn}
+use Rattle.triples.proofs.Words.{Worded, worded}
 use Rattle.triples.proofs.Laws.{Fresh, is-fresh, bit-set, after-length, place-cube, place-out, place-idle, place-word}
 
 -- ── turned triangles ──

@@ -14,8 +14,8 @@ use Rattle.paper.specs.Within.{cubeOf}
 use Rattle.paper.specs.Check.{turned, edgeOf, triangleOf}
 use Rattle.sides.specs.Pattern.{bitOf}
 use Rattle.tetra.specs.Cut.{rowBy, rowCount, rowTriangles}
-use Rattle.survey.specs.Marks.{baseOf}
 use Rattle.records.specs.Records.{edgeIn}
+use Rattle.triples.specs.Words.{baseOf}
 use Rattle.triples.specs.declared.Spot.{Spot}
 
 -- the edges of the first nv records are among n
@@ -63,16 +63,17 @@ fresh z words seen t =
 unfoldable pub noted : Sizes → List ℕ → List ℕ → Tri → List ℕ
 noted z words seen t = set seen (holder z t) (getD seen (holder z t) 0 + 2 ^ placeOf z words t)
 
--- a spot is based: its cube is one of the lattice, and its base is the cube's
-pub record Based (z : Sizes) (s : Spot) : Type 0 where
+-- a spot is based: its cube is one of the lattice, its base is the cube's, and so is its word, if it has one
+pub record Based (z : Sizes) (words : List ℕ) (s : Spot) : Type 0 where
   pub cube : s .cube < cubes z
   pub base : s .base ≡ baseOf z (s .cube)
+  pub word : (s .word ≡ 0 → ⊥) → s .word ≡ getD words (s .cube) 0
 
 -- a spot is where t is: its place, and its cube where it has a place
 pub record Found (z : Sizes) (words : List ℕ) (t : Tri) (s : Spot) : Type 0 where
   pub place : s .place ≡ placeOf z words t
   pub cube : s .place < 12 → s .cube ≡ holder z t
-  pub based : Based z s
+  pub based : Based z words s
 
 -- a spot has a place, and its bit is 0; its bit becomes 1
 unfoldable pub freshAt : List ℕ → Spot → Bool

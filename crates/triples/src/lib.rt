@@ -1,4 +1,5 @@
 // Test 18: the triangles of a file, named by edges, against those of the visited cubes.
+use paper::Place;
 use paper::Sizes;
 use tetra::Triangle;
 ghost use mathlib.Core.Path.{_≡_};
@@ -8,18 +9,20 @@ ghost use lib.Dec.{eqb};
 ghost use lib.ListN.{length, getD};
 ghost use Rattle.paper.specs.Lattice.{cubes};
 ghost use Rattle.paper.specs.Room.{neededSlots};
-ghost use Rattle.paper.specs.Within.{Sized, Below};
+ghost use Rattle.paper.specs.Within.{Sized, Below, CubeIn};
 ghost use Rattle.paper.specs.File.{fileV, fileT, fileVertices, fileTriangles};
 ghost use Rattle.paper.specs.Check.{sameTriangle, turned, cornerOf, triangleOf};
 ghost use Rattle.sides.specs.Pattern.{bitOf};
 ghost use Rattle.tetra.specs.Cut.{tetCorners, rowSteps, triOf};
 ghost use Rattle.layout.specs.Laid.{LaidOut};
+ghost use Rattle.triples.specs.Words.{wordBy, wordsBy};
 ghost use Rattle.triples.specs.Triples.{Named, holder, isAt, placeFrom, Sure, Based, Found, freshAt, notedAt, Small, seenAfter, firstBadIn};
 
-// A place of a cube, 12 for none, and 7 × the number of the cube's lowest sample.
+// A place of a cube, 12 for none, 7 × the number of the cube's lowest sample, and the cube's word, 0 for none.
 pub struct Spot {
     pub cube: usize,
     pub base: usize,
+    pub word: usize,
     pub place: usize,
 }
 
@@ -141,7 +144,7 @@ fn place_in(
     corners: &[usize; 24],
     steps: &[usize; 576],
     base: usize,
-    word: u16,
+    word: usize,
     t: Triangle,
     from: usize,
 ) -> usize
@@ -151,34 +154,52 @@ fn place_in(
     if word == 0 {
         return 12;
     }
-    place_from(sizes, corners, steps, base, (word % 256) as usize, t, from)
+    place_from(sizes, corners, steps, base, word % 256, t, from)
+}
+
+// The word of the cube at p, by rows of sides and rows of visited cubes.
+fn word_at(rows: &[u64], vis: &[u64], sizes: Sizes, p: Place) -> usize
+    requires { ⌜ Sized sizes × CubeIn sizes p ⌝ }
+    requires { ⌜ (sizes .ny * sizes .nz ≤ length (now rows)) × (sizes .ny * sizes .nz ≤ length (now vis)) ⌝ }
+    ensures { λ r. ⌜ r ≡ wordBy sizes (now (rows .entry)) (now (vis .entry)) p ⌝ }
+{
+    let r = p.y + sizes.ny * p.z;
+    if bits::has_bit(vis[r], p.x) {
+        return 256 + rows::pattern(rows::quad_at(rows, sizes.ny, r), p.x);
+    }
+    0
 }
 
 // Where t is, by the cube that can hold it.
 fn search(
     sizes: Sizes,
-    words: &[u16],
+    rows: &[u64],
+    vis: &[u64],
     corners: &[usize; 24],
     steps: &[usize; 576],
     t: Triangle,
 ) -> Spot
-    requires { ⌜ Sized sizes × (now corners ≡ tetCorners) × (now steps ≡ rowSteps sizes) × Below (neededSlots sizes) (triOf t) × (cubes sizes ≤ length (now words)) ⌝ }
-    ensures { λ r. ⌜ Found sizes (now (words .entry)) (triOf t) r × (r .place ≤ 12) ⌝ }
+    requires { ⌜ Sized sizes × (now corners ≡ tetCorners) × (now steps ≡ rowSteps sizes) × Below (neededSlots sizes) (triOf t) ⌝ }
+    requires { ⌜ (sizes .ny * sizes .nz ≤ length (now rows)) × (sizes .ny * sizes .nz ≤ length (now vis)) ⌝ }
+    ensures { λ r. ⌜ Found sizes (wordsBy sizes (now (rows .entry)) (now (vis .entry))) (triOf t) r × (r .place ≤ 12) ⌝ }
 {
     let k = holder_of(sizes, t);
     if lattice::cube_count(sizes) <= k {
         return Spot {
             cube: 0,
             base: 0,
+            word: 0,
             place: 12,
         };
     }
     let p = lattice::cube_at(sizes, k);
     let base = 7 * lattice::sample_no(sizes, p);
-    let place = place_in(sizes, corners, steps, base, words[k], t, 0);
+    let word = word_at(rows, vis, sizes, p);
+    let place = place_in(sizes, corners, steps, base, word, t, 0);
     Spot {
         cube: k,
         base: base,
+        word: word,
         place: place,
     }
 }
@@ -186,34 +207,37 @@ fn search(
 // Where t is: sought behind the last triangle in that one's cube, then by its own.
 fn find(
     sizes: Sizes,
-    words: &[u16],
+    rows: &[u64],
+    vis: &[u64],
     corners: &[usize; 24],
     steps: &[usize; 576],
     last: Spot,
     t: Triangle,
 ) -> Spot
-    requires { ⌜ Sized sizes × (now corners ≡ tetCorners) × (now steps ≡ rowSteps sizes) × Below (neededSlots sizes) (triOf t) × (cubes sizes ≤ length (now words)) ⌝ }
-    requires { ⌜ Sure sizes (now words) × Based sizes last × (last .place ≤ 12) ⌝ }
-    ensures { λ r. ⌜ Found sizes (now (words .entry)) (triOf t) r × (r .place ≤ 12) ⌝ }
+    requires { ⌜ Sized sizes × (now corners ≡ tetCorners) × (now steps ≡ rowSteps sizes) × Below (neededSlots sizes) (triOf t) ⌝ }
+    requires { ⌜ (sizes .ny * sizes .nz ≤ length (now rows)) × (sizes .ny * sizes .nz ≤ length (now vis)) ⌝ }
+    requires { let words = wordsBy sizes (now rows) (now vis) in
+        ⌜ Sure sizes words × Based sizes words last × (last .place ≤ 12) ⌝ }
+    ensures { λ r. ⌜ Found sizes (wordsBy sizes (now (rows .entry)) (now (vis .entry))) (triOf t) r × (r .place ≤ 12) ⌝ }
 {
-    let k = last.cube;
     let place = place_in(
         sizes,
         corners,
         steps,
         last.base,
-        words[k],
+        last.word,
         t,
         last.place + 1,
     );
     if place < 12 {
         return Spot {
-            cube: k,
+            cube: last.cube,
             base: last.base,
+            word: last.word,
             place: place,
         };
     }
-    search(sizes, words, corners, steps, t)
+    search(sizes, rows, vis, corners, steps, t)
 }
 
 // Bit c of m.
@@ -272,10 +296,16 @@ fn triangle_at(bytes: &[u8], nv: usize, n: usize, i: usize) -> Triangle
 }
 
 // The first triangle that is not one of its cube's, or whose bit an earlier one made 1, or T; the bits of those before it are 1.
-pub fn first_bad(sizes: Sizes, bytes: &[u8], words: &[u16], seen: &mut [u32]) -> usize
+pub fn first_bad(sizes: Sizes, bytes: &[u8], rows: &[u64], vis: &[u64], seen: &mut [u32]) -> usize
     requires { ⌜ Sized sizes × LaidOut (now bytes) × Named (neededSlots sizes) (fileVertices (now bytes)) (fileV (now bytes)) ⌝ }
-    requires { ⌜ (cubes sizes ≤ length (now words)) × (cubes sizes ≤ length (now seen)) × Small (cubes sizes) (now seen) × Sure sizes (now words) ⌝ }
-    ensures { λ r. ⌜ (r ≡ firstBadIn sizes (now (words .entry)) (fileVertices (now (bytes .entry))) (fileTriangles (now (bytes .entry))) (now (seen .entry)) (fileT (now (bytes .entry)))) × (now (seen .exit) ≡ seenAfter sizes (now (words .entry)) (fileVertices (now (bytes .entry))) (fileTriangles (now (bytes .entry))) (now (seen .entry)) r) ⌝ }
+    requires { ⌜ (sizes .ny * sizes .nz ≤ length (now rows)) × (sizes .ny * sizes .nz ≤ length (now vis)) ⌝ }
+    requires { ⌜ (cubes sizes ≤ length (now seen)) × Small (cubes sizes) (now seen) × Sure sizes (wordsBy sizes (now rows) (now vis)) ⌝ }
+    ensures { λ r.
+        let words = wordsBy sizes (now (rows .entry)) (now (vis .entry)) in
+        let vs = fileVertices (now (bytes .entry)) in
+        let ts = fileTriangles (now (bytes .entry)) in
+        ⌜ (r ≡ firstBadIn sizes words vs ts (now (seen .entry)) (fileT (now (bytes .entry))))
+        × (now (seen .exit) ≡ seenAfter sizes words vs ts (now (seen .entry)) r) ⌝ }
 {
     let n = 7 * lattice::sample_count(sizes);
     let nv = layout::vertex_count(bytes);
@@ -285,12 +315,13 @@ pub fn first_bad(sizes: Sizes, bytes: &[u8], words: &[u16], seen: &mut [u32]) ->
     let mut last = Spot {
         cube: 0,
         base: 0,
+        word: 0,
         place: 12,
     };
     let mut i = 0;
     while i < nt {
         let t = triangle_at(bytes, nv, n, i);
-        last = find(sizes, words, &corners, &steps, last, t);
+        last = find(sizes, rows, vis, &corners, &steps, last, t);
         let good = note(seen, last);
         if !good {
             return i;

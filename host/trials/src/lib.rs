@@ -6,6 +6,7 @@ pub mod damage;
 pub mod fuzz;
 pub mod hold;
 pub mod random;
+pub mod stack;
 pub mod stl;
 pub mod tooled;
 pub mod tray;

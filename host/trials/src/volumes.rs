@@ -1,27 +1,28 @@
-//! The three 64x64x64 volumes of the benchmark: one pore; a tray with walls at the bounds; noise.
+//! The volumes of the benchmark. Three of 64x64x64 samples: one pore; a tray with walls at the bounds; noise. Small surfaces in as
+//! large a lattice: a speck and balls. Balls and noise on lattices that grow.
 
 use crate::cases::Case;
 use crate::random::Random;
 
 const N: usize = 64;
 
-/// A volume of samples, rounded, from a function of coordinates.
-fn sampled(mut grey: impl FnMut(f64, f64, f64) -> f64) -> Case {
-    let mut samples = Vec::with_capacity(N * N * N);
-    for z in 0..N {
-        for y in 0..N {
-            for x in 0..N {
+/// A volume of n samples on each axis, rounded, from a function of coordinates.
+fn sampled(n: usize, mut grey: impl FnMut(f64, f64, f64) -> f64) -> Case {
+    let mut samples = Vec::with_capacity(n * n * n);
+    for z in 0..n {
+        for y in 0..n {
+            for x in 0..n {
                 let value = grey(x as f64, y as f64, z as f64).round_ties_even();
                 samples.push(value.clamp(-32767.0, 32767.0) as i16);
             }
         }
     }
-    Case { sizes: [N; 3], start: None, samples }
+    Case { sizes: [n; 3], start: None, samples }
 }
 
 /// One smooth pore, radius about 21 samples, with three gentle lobes, in solid.
 pub fn pore() -> Case {
-    sampled(|x, y, z| {
+    sampled(N, |x, y, z| {
         let (dx, dy, dz) = (x - 31.37, y - 32.11, z - 31.73);
         let r = (dx * dx + dy * dy + dz * dz).sqrt() + 1e-9;
         let lobes = 1.5 * (3.0 * dy.atan2(dx)).sin() * (1.0 - (dz / r).powi(2)).max(0.0).powf(1.5);
@@ -53,7 +54,7 @@ pub fn tray() -> Case {
             castings.push(Casting { centre, phase, pore, radius: 3.2 + random.unit() * 0.7 });
         }
     }
-    sampled(|x, y, z| {
+    sampled(N, |x, y, z| {
         let distance = |c: &Casting| {
             let hx = 6.2 + 0.6 * (0.45 * y + c.phase[0]).sin() + 0.4 * (0.6 * z + c.phase[1]).sin();
             let hy = 13.6 + 0.7 * (0.5 * x + c.phase[2]).sin() + 0.5 * (0.4 * z + c.phase[3]).sin();
@@ -68,12 +69,38 @@ pub fn tray() -> Case {
 }
 
 /// White noise.
-pub fn noise() -> Case {
+pub fn noise(n: usize) -> Case {
     let mut random = Random::new(7);
-    sampled(|_, _, _| random.below(65_535) as f64 - 32_767.0)
+    sampled(n, |_, _, _| random.below(65_535) as f64 - 32_767.0)
+}
+
+/// A ball of air amid solid, off the middle by less than a sample.
+pub fn ball(n: usize, radius: f64) -> Case {
+    let middle = n as f64 / 2.0 - 0.37;
+    sampled(n, |x, y, z| {
+        let (dx, dy, dz) = (x - middle, y - middle - 0.3, z - middle + 0.2);
+        700.0 * (radius - (dx * dx + dy * dy + dz * dz).sqrt())
+    })
+}
+
+/// One sample of air amid solid.
+pub fn speck() -> Case {
+    let middle = N as f64 / 2.0;
+    sampled(N, |x, y, z| if [x, y, z] == [middle; 3] { 1000.0 } else { -1000.0 })
 }
 
 /// The three, by name.
 pub fn all() -> [(&'static str, Case); 3] {
-    [("pore", pore()), ("tray", tray()), ("noise", noise())]
+    [("pore", pore()), ("tray", tray()), ("noise", noise(N))]
+}
+
+/// Small surfaces in a large lattice, by name.
+pub fn small() -> [(&'static str, Case); 4] {
+    [("speck", speck()), ("ball 1", ball(N, 1.0)), ("ball 7", ball(N, 7.0)), ("ball 31", ball(N, 31.0))]
+}
+
+/// Lattices that grow: a ball whose radius is a third of the axis, and noise, of which `all` has the largest.
+pub fn growing() -> Vec<(&'static str, Case)> {
+    let balls = [16, 32, 48, N].map(|n| ("ball", ball(n, 21.0 * n as f64 / 64.0)));
+    balls.into_iter().chain([16, 32, 48].map(|n| ("noise", noise(n)))).collect()
 }

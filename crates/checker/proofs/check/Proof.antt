@@ -31,8 +31,11 @@ abbrev w : tie.Start → Work
 w s = work (now (s .args .words)) (now (s .args .waiting)) (now (s .args .slots))
 
 -- the stages of a call: from where tests 1 to 5 are passed, and from where those of the file are
-abbrev start : tie.Else1 → tie.Start
-start c = c .before .before .before .before .before .before .before
+abbrev start : tie.After-begin → tie.Start
+start c = c .before .before .before .before .before .before
+
+abbrev begun : tie.Else1 → tie.After-begin
+begun c = c .before .before .before
 
 abbrev past : tie.Else2 → tie.Else1
 past c = c .before .before .before
@@ -40,30 +43,39 @@ past c = c .before .before .before
 abbrev read : tie.After-same-sizes → tie.Else2
 read c = c .before .before
 
--- tests 1 to 5 are passed
-begun : (c : tie.Else1) → judge (sampleTests (L (start c)) (start c .args .start) (lengths (w (start c)))) .number ≡ 0
-begun c = sym (c .before .before .begin .ensures .answer) ∙ c .if1 .left
+abbrev entry : tie.Else1 → tie.Start
+entry c = start (begun c)
 
-begins : (c : tie.Else1) → Begins (L (start c)) (start c .args .start) (lengths (w (start c))) (c .before .before .begin .result .cube)
-begins c = c .before .before .begin .ensures .begins (c .if1 .left)
+-- tests 1 to 5 are passed
+passed : (c : tie.Else1) → judge (sampleTests (L (entry c)) (entry c .args .start) (lengths (w (entry c)))) .number ≡ 0
+passed c = sym (begun c .begin .ensures .answer) ∙ c .if1 .left
+
+begins : (c : tie.Else1) → Begins (L (entry c)) (entry c .args .start) (lengths (w (entry c))) (begun c .begin .last .1 .1 .1 .1 .1 .1 .0)
+    (begun c .begin .result .cube)
+begins c = begun c .begin .ensures .begins (c .if1 .left)
 
 -- and those of the file
-told : (c : tie.Else2) → judge (fileTests (bs (start (past c)))) .number ≡ 0
+told : (c : tie.Else2) → judge (fileTests (bs (entry (past c)))) .number ≡ 0
 told c = sym (ap (λ (v : Verdict). v .number) (c .before .before .tested .ensures)) ∙ c .if2 .left
 
-same : (c : tie.After-same-sizes) → let s = start (past (read c)) in c .same-sizes .result ≡ sameSizes (fileSizes (bs s)) (s .args .sizes)
-same c = c .same-sizes .ensures ∙ ap (λ z. sameSizes z (start (past (read c)) .args .sizes)) (c .before .sizes-of .ensures)
+same : (c : tie.After-same-sizes) → let s = entry (past (read c)) in c .same-sizes .result ≡ sameSizes (fileSizes (bs s)) (s .args .sizes)
+same c = c .same-sizes .ensures ∙ ap (λ z. sameSizes z (entry (past (read c)) .args .sizes)) (c .before .sizes-of .ensures)
+
+slice-aggregate-begin : tie.Need-slice-aggregate-begin
+slice-aggregate-begin c = search needs
 
 begin-requires : tie.Need-begin-requires
 begin-requires c κs = search needs
 
 returns : tie.Need-returns
 returns c =
-    let s = c .before .before .before .before .before .before .before in
-    let e = c .before .before .begin .ensures .answer in
+    let b = c .before .before .before in
+    let s = start b in
+    let e = b .begin .ensures .answer in
     let n = lengths (w s) in
     let h : judge (sampleTests (L s) (s .args .start) n) .number ≡ 0 → ⊥ = λ q. c .if1 .taken (e ∙ q) in
-    kept (L s) (s .args .start) (bs s) (w s) _ (sample-answer (L s) (s .args .start) n _ e ∙ sym (checked-samples (L s) (s .args .start) (bs s) n h))
+    kept (L s) (s .args .start) (bs s) (w s) _
+    (sample-answer (L s) (s .args .start) n _ e ∙ sym (checked-samples (L s) (s .args .start) (bs s) n h))
     (ap clears e ∙ sample-keeps (L s) (s .args .start) n h)
 
 tested-requires : tie.Need-tested-requires
@@ -72,14 +84,14 @@ tested-requires c κs = search needs
 returns-2 : tie.Need-returns-2
 returns-2 c =
     let b = c .before .before .before in
-    let s = start b in
+    let s = entry b in
     let e = c .before .before .tested .ensures in
     let h : judge (fileTests (bs s)) .number ≡ 0 → ⊥ = λ q. c .if2 .taken (ap (λ (v : Verdict). v .number) e ∙ q) in
-    kept (L s) (s .args .start) (bs s) (w s) _ (e ∙ sym (checked-file (L s) (s .args .start) (bs s) (lengths (w s)) (begun b) h))
+    kept (L s) (s .args .start) (bs s) (w s) _ (e ∙ sym (checked-file (L s) (s .args .start) (bs s) (lengths (w s)) (passed b) h))
     (ap (λ (v : Verdict). clears (v .number)) e ∙ file-keeps (bs s) h)
 
 sizes-of-requires : tie.Need-sizes-of-requires
-sizes-of-requires c κs = omega (arith, laid-out (bs (start (past c))) (told c) .ranged .long)
+sizes-of-requires c κs = omega (arith, laid-out (bs (entry (past c))) (told c) .ranged .long)
 
 same-sizes-requires : tie.Need-same-sizes-requires
 same-sizes-requires c κs = search needs
@@ -88,15 +100,18 @@ returns-3 : tie.Need-returns-3
 returns-3 c =
     let f = read (c .before) in
     let b = past f in
-    let s = start b in
+    let s = entry b in
     kept (L s) (s .args .start) (bs s) (w s) _
-    (sym (checked-sizes (L s) (s .args .start) (bs s) (lengths (w s)) (begun b) (told f) (sym (same (c .before)) ∙ not-true _ (c .if3 .taken)))) refl
+    (sym (checked-sizes (L s) (s .args .start) (bs s) (lengths (w s)) (passed b) (told f) (sym (same (c .before)) ∙ not-true _ (c .if3 .taken)))) refl
 
-last-tests-requires : tie.Need-last-tests-requires
-last-tests-requires c κs =
-    let f = c .before .before .before .before .before .before in
+slice-aggregate-check-from : tie.Need-slice-aggregate-check-from
+slice-aggregate-check-from c = search needs
+
+check-from-requires : tie.Need-check-from-requires
+check-from-requires c κs =
+    let f = read (c .before .before .before .before .before) in
     let b = begins (past f) in
-    (b .full, b .below, laid-out (bs (start (past f))) (told f), b .roomy)
+    ((b .full, b .sides, b .below, laid-out (bs (entry (past f))) (told f)), b .roomy)
 
 same-length : tie.Need-same-length
 same-length c = search needs
@@ -109,20 +124,21 @@ same-length-3 c = search needs
 
 returns-4 : tie.Need-returns-4
 returns-4 c =
-    let at-last-tests = c .before .before .before .before .before .before in
-    let at-if3 = at-last-tests .before .before .before .before in
+    let at-check = c .before .before .before .before .before .before in
+    let at-if3 = at-check .before .before .before .before .before in
     let f = read (at-if3 .before) in
     let b = past f in
-    let s = start b in
-    let e = at-last-tests .last-tests .ensures .0 ∙ ap (λ (k : ℕ). judge (lastTests (L s) k (bs s))) (begins b .is) in
+    let s = entry b in
+    let e = at-check .check-from .ensures .0 ∙ ap (λ (k : ℕ). judge (lastTests (L s) k (bs s))) (begins b .is) in
     emptied (L s) (s .args .start) (bs s) (w s) _
-    (e ∙ sym (checked-last (L s) (s .args .start) (bs s) (lengths (w s)) (begun b) (told f) (sym (same (at-if3 .before)) ∙ not-false _ (at-if3 .if3 .left))))
-    (ap (λ (v : Verdict). clears (v .number)) e ∙ last-clears (L s) (startOf (L s) (s .args .start)) (bs s)) _ (at-last-tests .last-tests .ensures .1)
+    (e ∙ sym (checked-last (L s) (s .args .start) (bs s) (lengths (w s)) (passed b) (told f) (sym (same (at-if3 .before)) ∙ not-false _ (at-if3 .if3 .left))))
+    (ap (λ (v : Verdict). clears (v .number)) e ∙ last-clears (L s) (startOf (L s) (s .args .start)) (bs s)) _ (at-check .check-from .ensures .1)
 
 pub check-spec : {M : Type 1} → statement M
 check-spec =
     tie.close
     (tie.spec
+    slice-aggregate-begin
     begin-requires
     returns
     tested-requires
@@ -130,7 +146,8 @@ check-spec =
     sizes-of-requires
     same-sizes-requires
     returns-3
-    last-tests-requires
+    slice-aggregate-check-from
+    check-from-requires
     same-length
     same-length-2
     same-length-3

@@ -9,6 +9,7 @@ use Rattle.paper.specs.Lattice.{Lattice, lattice}
 use Rattle.paper.specs.Room.{needed, neededSlots, Work, work}
 use Rattle.paper.specs.File.{fileV, fileT, fileVertices, fileTriangles}
 use Rattle.records.specs.Records.{firstBadIn as firstBadRecord}
+use Rattle.triples.specs.Words.{wordsBy}
 use Rattle.triples.specs.Triples.{firstBadIn as firstBadTriple}
 use Rattle.checker.proofs.Answers.{answer-17, answer-18, answer-19-vertices, answer-19-triangles, answer-0, slots-beyond, seen-beyond, all-named}
 use borrow.Author.Needs.{needs}
@@ -23,12 +24,12 @@ abbrev bs : tie.Start → List ℕ
 bs s = now (s .args .bytes)
 
 abbrev w : tie.Start → Work
-w s = work (now (s .args .words)) (now (s .args .waiting)) (now (s .args .slots))
+w s = work (wordsBy (s .args .sizes) (now (s .args .rows)) (now (s .args .vis))) (now (s .args .waiting)) (now (s .args .slots))
 
 -- ── the records are compared ──
 
 abbrev start : tie.After-first-bad → tie.Start
-start c = c .before .before .before .before .before .before .before .before
+start c = c .before .before .before .before .before .before .before .before .before
 
 slots-left : (c : tie.After-first-bad) → Beyond (neededSlots (start c .args .sizes)) (now (start c .args .slots)) (c .first-bad .last .1 .1 .1 .0)
 slots-left c =
@@ -51,17 +52,17 @@ module _ (c : tie.Else1) where
 abbrev passed : tie.After-first-bad2 → tie.Else1
 passed c = c .before .before
 
-waiting-left : (c : tie.After-first-bad2) → let s = start (compared (passed c)) in Beyond (needed (s .args .sizes)) (now (s .args .waiting)) (c .first-bad2 .last .1 .1 .1 .0)
+waiting-left : (c : tie.After-first-bad2) → let s = start (compared (passed c)) in Beyond (needed (s .args .sizes)) (now (s .args .waiting)) (c .first-bad2 .last .1 .1 .1 .1 .0)
 waiting-left c =
     let s = start (compared (passed c)) in
-    seen-beyond (s .args .sizes) (now (s .args .words)) (fileVertices (bs s)) (fileTriangles (bs s)) (fileT (bs s)) (now (s .args .waiting)) _
+    seen-beyond (s .args .sizes) (w s .words) (fileVertices (bs s)) (fileTriangles (bs s)) (fileT (bs s)) (now (s .args .waiting)) _
     (c .first-bad2 .result) (c .first-bad2 .ensures .0) (c .first-bad2 .ensures .1)
 
 abbrev met : tie.Else2 → tie.After-first-bad2
 met c = c .before .before .before
 
 no-triple : (c : tie.Else2) → let s = start (compared (passed (met c))) in
-    firstBadTriple (s .args .sizes) (now (s .args .words)) (fileVertices (bs s)) (fileTriangles (bs s)) (now (s .args .waiting)) (fileT (bs s)) ≡ fileT (bs s)
+    firstBadTriple (s .args .sizes) (w s .words) (fileVertices (bs s)) (fileTriangles (bs s)) (now (s .args .waiting)) (fileT (bs s)) ≡ fileT (bs s)
 no-triple c = sym (met c .first-bad2 .ensures .0) ∙ (c .if2 .left ∙ compared (passed (met c)) .before .before .triangle-count .ensures .0)
 
 -- ── answer by answer ──
@@ -93,10 +94,10 @@ first-bad-requires-2 : tie.Need-first-bad-requires-2
 first-bad-requires-2 c κs =
     let e = c .before in
     let s = start (compared e) in
-    let p = s .pre .0 in
-    let r = s .pre .1 in (
+    let p = s .pre .0 .0 in
+    let r = s .pre .0 .1 in (
       (p .full .sized, p .laid, all-named (L s) (fileVertices (bs s)) (now (s .args .slots)) (fileV (bs s)) (no-record e)),
-      (r .words, r .waiting, p .small, p .sure),
+      (s .pre .1, (r .waiting, p .small, p .sure)),
     )
 
 same-length-2 : tie.Need-same-length-2

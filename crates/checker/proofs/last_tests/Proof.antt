@@ -1,78 +1,30 @@
--- The sheet is measured, the file compared with it, and the work slices cleared. Assumes nothing.
-use mathlib.Core.Path.{_≡_, ap, _∙_}
-use mathlib.Core.List.{List}
-use Prim.Native.Nat.{ℕ}
-use native.Mathlib.Omega.{arith}
-use denote.Ref.{now}
-use Rattle.paper.specs.Room.{needed, Work, work, lengths}
-use Rattle.lists.specs.Lists.{cleared}
-use Rattle.paper.specs.Lattice.{Lattice, lattice}
-use Rattle.paper.specs.Within.{Roomy}
-use Rattle.checker.proofs.Verdicts.{comparable, same-answer, cleaned}
+-- In the sheet's own order, or in any. Assumes nothing.
 use borrow.Author.Needs.{needs}
+use native.Mathlib.Omega.{arith}
+use Rattle.lists.proofs.Stores.{beyond-refl, beyond-trans}
 use Rattle.checker.proofs.last_tests.Statement.{statement}
 use Rattle.checker.proofs.last_tests.Tie as tie
 
-abbrev L : tie.Start → Lattice
-L s = lattice (s .args .sizes) (now (s .args .samples))
+-- past the comparison in order
+abbrev start : tie.After-in-order → tie.Start
+start c = c .before .before .before .before .before .before .before
 
-abbrev w : tie.Start → Work
-w s = work (now (s .args .words)) (now (s .args .waiting)) (now (s .args .slots))
-
--- the sheet is measured and the waiting list empty
-module _ (c : tie.After-clear-list) where
-  abbrev s : tie.Start
-  s = c .before .before .before .before .before .before .before .before .before .before .before .before .before .before .before .before .before
-
-  abbrev words : List ℕ
-  words = c .before .before .before .before .before .before .before .before .before .measure .last .1 .1 .1 .0
-
-  abbrev waiting : List ℕ
-  waiting = c .before .before .before .before .before .before .before .before .before .measure .last .1 .1 .1 .1 .0
-
-  abbrev slots : List ℕ
-  slots = c .before .before .before .before .before .before .before .before .before .measure .last .1 .1 .1 .1 .1 .0
-
-  blank : c .clear-list .last .0 ≡ cleared (needed (s .args .sizes)) waiting
-  blank = c .clear-list .ensures ∙ ap (λ (n : ℕ). cleared n waiting) (c .before .before .cube-count .ensures .0)
-
-  room : Roomy (s .args .sizes) (lengths (work words (c .clear-list .last .0) slots))
-  room =
-      let kept = c .before .before .before .before .before .before .before .before .before .measure .kept in
-      record {
-        words = omega (arith, s .pre .3 .words, kept);
-        waiting = omega (arith, s .pre .3 .waiting, kept, c .clear-list .kept);
-        slots = omega (arith, s .pre .3 .slots, kept);
-      }
-
-measure-requires : tie.Need-measure-requires
-measure-requires c κs = search needs
-
-cube-count-requires : tie.Need-cube-count-requires
-cube-count-requires c κs = search needs
-
-clear-list-requires : tie.Need-clear-list-requires
-clear-list-requires c κs = search needs
-
-compare-requires : tie.Need-compare-requires
-compare-requires c κs =
-    let a = c .before .before .before .before .before in
-    let at-measure = a .before .before .before .before .before .before .before .before .before in
-    let s = at-measure .before .before .before .before .before .before .before .before in
-    let m = at-measure .measure in
-    (comparable (L s) (s .pre .0 .sized) (s .args .start) (s .pre .1) (w s) (words a) (waiting a) (slots a) (m .result) (m .ensures) _ (blank a) (s .pre .0) _ (s .pre .2), room a)
-
-clear-work-requires : tie.Need-clear-work-requires
-clear-work-requires c κs =
-    let at-compare = c .before .before .before .before .before .before .before in
-    let past = at-compare .before .before .before .before .before .before in
-    let s = past .before .before .before .before .before .before .before .before .before .before .before .before .before .before .before .before .before in
-    let r = room past in
-    let q = at-compare .compare .ensures in
-    (s .pre .0 .sized, r .words, omega (arith, r .waiting, q .waiting .same-length), omega (arith, r .slots, q .slots .same-length))
+in-order-requires : tie.Need-in-order-requires
+in-order-requires c κs = let s = c .before .before .before .before .before .before in (s .pre .0, (s .pre .1 .0, s .pre .1 .2))
 
 same-length : tie.Need-same-length
 same-length c = search needs
+
+returns : tie.Need-returns
+returns c =
+    let o = c .before .before .before .in-order .ensures in
+    (o .0 (c .if1 .taken), beyond-refl _ _, o .1)
+
+in-any-order-requires : tie.Need-in-any-order-requires
+in-any-order-requires c κs =
+    let o = c .before .before .before .before .before in
+    let s = start o in
+    (s .pre .0, (s .pre .1 .0, s .pre .1 .1, omega (arith, s .pre .1 .2, o .in-order .ensures .1 .same-length)))
 
 same-length-2 : tie.Need-same-length-2
 same-length-2 c = search needs
@@ -80,30 +32,21 @@ same-length-2 c = search needs
 same-length-3 : tie.Need-same-length-3
 same-length-3 c = search needs
 
-returns : tie.Need-returns
-returns c =
-    let at-clear-work = c .before .before .before .before .before .before in
-    let at-compare = at-clear-work .before .before .before .before .before .before .before .before in
-    let a = at-compare .before .before .before .before .before .before in
-    let at-measure = a .before .before .before .before .before .before .before .before .before in
-    let s = at-measure .before .before .before .before .before .before .before .before in
-    let m = at-measure .measure in
-    let q = at-compare .compare .ensures in
-    let k = at-clear-work .clear-work .ensures in (
-      q .answer ∙ same-answer (L s) (s .pre .0 .sized) (s .args .start) (s .pre .1) (w s) (words a) (waiting a) (slots a) (m .result) (m .ensures) _ (blank a) (room a) (now (s .args .bytes)),
-      (λ i. work (k .0 i) (k .1 i) (k .2 i)) ∙ cleaned (L s) (s .pre .0 .sized) (s .args .start) (s .pre .1) (w s) (words a) (waiting a) (slots a) (m .result) (m .ensures) _ (blank a) _ _ (q .waiting) (q .slots),
-    )
+returns-2 : tie.Need-returns-2
+returns-2 c =
+    let a = c .before .before .before .before in
+    let o = a .before .before .before .before .before .before in
+    let q = a .in-any-order .ensures in
+    (q .0, q .1, beyond-trans (o .in-order .ensures .1) (q .2))
 
 pub last-tests-spec : {M : Type 1} → statement M
 last-tests-spec =
     tie.close
     (tie.spec
-    measure-requires
-    cube-count-requires
-    clear-list-requires
-    compare-requires
-    clear-work-requires
+    in-order-requires
     same-length
+    returns
+    in-any-order-requires
     same-length-2
     same-length-3
-    returns)
+    returns-2)

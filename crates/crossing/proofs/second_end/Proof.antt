@@ -1,9 +1,9 @@
 -- The word's digits are the definition's. Assumes nothing.
-use Rattle.paper.specs.Tables.{kinds}
-use Rattle.sides.specs.Pattern.{digitOf}
-use Rattle.sides.proofs.Digits.{digit-is}
-use Rattle.paper.specs.Sheet.{endsOf}
 use borrow.Author.Needs.{needs}
+use Rattle.paper.specs.Sheet.{endsOf}
+use Rattle.sides.proofs.Digits.{digit-is}
+use Rattle.sides.specs.Pattern.{digitOf}
+use Rattle.paper.specs.Tables.{kinds}
 use Rattle.crossing.proofs.second_end.Statement.{statement}
 use Rattle.crossing.proofs.second_end.Tie as tie
 

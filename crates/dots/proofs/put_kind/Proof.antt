@@ -9,8 +9,8 @@ use Rattle.lists.proofs.Member.{eq→T}
 use Rattle.paper.specs.Lattice.{lattice}
 use Rattle.paper.specs.Sheet.{vertexRecord}
 use Rattle.bits.specs.Words.{bit}
-use Rattle.dots.specs.Dots.{drawn}
-use Rattle.dots.proofs.Laws.{kind-on, draws-kind, draws-off}
+use Rattle.dots.specs.Dots.{edgeAt, drawn}
+use Rattle.dots.proofs.Laws.{kind-on, kind-off, draws-kind, draws-empty}
 use borrow.Author.Needs.{needs}
 use Rattle.dots.proofs.put_kind.Statement.{statement}
 use Rattle.dots.proofs.put_kind.Tie as tie
@@ -30,11 +30,14 @@ vertex-on-requires c κs =
     let s = entry (c .before) in
     (s .pre .0 .0, s .pre .0 .1, s .pre .1 .0 .at (s .args .kind) (s .pre .0 .3) (eq→T (on c)))
 
+sub-put-vertex : tie.Need-sub-put-vertex
+sub-put-vertex c = entry (c .before .before .before) .pre .1 .1 .since
+
 put-vertex-requires : tie.Need-put-vertex-requires
 put-vertex-requires c κs =
     let t = c .before .before in
     let s = entry (t .before) in
-    omega (arith, s .pre .1 .1 .room, ap length (kind-on (s .args .ks) (s .args .base) (s .args .kind) (on t)))
+    omega (arith, s .pre .1 .1 .since, s .pre .1 .1 .room, ap length (kind-on (s .args .ks) (s .args .base) (s .args .kind) (on t)))
 
 cast-slots : tie.Need-cast-slots
 cast-slots c = search needs
@@ -65,15 +68,15 @@ returns c =
     let s = entry (t .before) in
     let a = s .args in
     let L = lattice (a .sizes) (now (a .samples)) in
-    draws-kind L (a .at) (a .ks) (a .base) (a .kind) (drawn (now (a .vertices)) (now (a .slots))) _ _ (p .put-vertex .ensures)
+    draws-kind L (a .first) (a .at) (a .ks) (a .base) (a .kind) (drawn (now (a .vertices)) (now (a .slots))) _ _ (p .put-vertex .ensures)
     (f .vertex-on .ensures ∙ ap (λ (b : ℕ). vertexRecord L (b + a .kind)) (sym (s .pre .0 .2))) (on t)
 
 returns-2 : tie.Need-returns-2
 returns-2 c =
     let s = entry (c .before) in
     let a = s .args in
-    draws-off (lattice (a .sizes) (now (a .samples))) (a .at) (a .ks) (a .base) (a .kind) (drawn (now (a .vertices)) (now (a .slots)))
-    (sym (c .before .has-bit .ensures) ∙ c .if1 .left)
+    draws-empty (lattice (a .sizes) (now (a .samples))) (a .first) (a .at) (drawn (now (a .vertices)) (now (a .slots)))
+    (edgeAt (a .ks) (a .base) (a .kind)) (kind-off (a .ks) (a .base) (a .kind) (sym (c .before .has-bit .ensures) ∙ c .if1 .left))
 
 pub put-kind-spec : {M : Type 1} → statement M
 put-kind-spec =
@@ -81,6 +84,7 @@ put-kind-spec =
     (tie.spec
     has-bit-requires
     vertex-on-requires
+    sub-put-vertex
     put-vertex-requires
     cast-slots
     add-slots

@@ -1,7 +1,7 @@
 -- `facets::facet_taken` meets its contract: three tests, one after the other. Assumes nothing.
-use Rattle.layout.proofs.Flags.{fails, passes}
-use Rattle.facets.specs.Facets.{facetAt, facetStands}
 use borrow.Author.Needs.{needs}
+use Rattle.facets.specs.Facets.{facetAt, facetStands}
+use Rattle.layout.proofs.Flags.{fails, passes}
 use Rattle.facets.proofs.facet_taken.Statement.{statement}
 use Rattle.facets.proofs.facet_taken.Tie as tie
 

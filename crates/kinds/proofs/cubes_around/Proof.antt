@@ -1,6 +1,6 @@
 -- The four words. Assumes nothing.
-use Rattle.kinds.specs.Kinds.{cubesAround}
 use borrow.Author.Needs.{needs}
+use Rattle.kinds.specs.Kinds.{cubesAround}
 use Rattle.kinds.proofs.cubes_around.Statement.{statement}
 use Rattle.kinds.proofs.cubes_around.Tie as tie
 

@@ -1,6 +1,6 @@
 -- The three words. Assumes nothing.
-use Rattle.kinds.specs.Kinds.{sidesAround}
 use borrow.Author.Needs.{needs}
+use Rattle.kinds.specs.Kinds.{sidesAround}
 use Rattle.kinds.proofs.sides_around.Statement.{statement}
 use Rattle.kinds.proofs.sides_around.Tie as tie
 

@@ -1,10 +1,10 @@
 -- `layout::laid_out` meets its contract: each of its answers is test 14 at the numbers that were read. Assumes nothing.
-use Rattle.layout.proofs.Flags.{fails, passes}
 use mathlib.Core.Path.{_≡_, refl, sym, _∙_}
 use mathlib.Core.Bool.{true, _&&_}
 use Prim.Native.Nat.{ℕ, _+_, _*_}
 use lib.Dec.{eqb}
 use lib.ListN.{length}
+use Rattle.layout.proofs.Flags.{fails, passes}
 use Rattle.paper.specs.File.{limits, trailer, laidOut}
 use denote.Ref.{now}
 use borrow.Author.Tests.{ne-eqb, eq-eqb}

@@ -1,6 +1,6 @@
 -- `layout::sizes_of` meets its contract: each size is a number of the trailer. Assumes nothing.
-use Rattle.paper.specs.File.{fileSizes}
 use borrow.Author.Needs.{needs}
+use Rattle.paper.specs.File.{fileSizes}
 use Rattle.layout.proofs.sizes_of.Statement.{statement}
 use Rattle.layout.proofs.sizes_of.Tie as tie
 

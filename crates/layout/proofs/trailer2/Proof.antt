@@ -1,6 +1,6 @@
 -- `layout::trailer2` meets its contract: it is `field` at the trailer's place. Assumes nothing.
-use Rattle.paper.specs.File.{trailer}
 use borrow.Author.Needs.{needs}
+use Rattle.paper.specs.File.{trailer}
 use Rattle.layout.proofs.trailer2.Statement.{statement}
 use Rattle.layout.proofs.trailer2.Tie as tie
 

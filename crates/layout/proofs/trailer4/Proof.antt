@@ -1,6 +1,6 @@
 -- `layout::trailer4` meets its contract: it is `field` at the trailer's place, and a u32 is below 2 ^ 32. Assumes nothing.
-use Rattle.paper.specs.File.{trailer}
 use borrow.Author.Needs.{needs}
+use Rattle.paper.specs.File.{trailer}
 use Rattle.layout.proofs.trailer4.Statement.{statement}
 use Rattle.layout.proofs.trailer4.Tie as tie
 

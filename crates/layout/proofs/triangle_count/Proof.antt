@@ -1,6 +1,6 @@
 -- `layout::triangle_count` meets its contract: T is the trailer's number at 12. Assumes nothing.
-use Rattle.paper.specs.File.{fileT}
 use borrow.Author.Needs.{needs}
+use Rattle.paper.specs.File.{fileT}
 use Rattle.layout.proofs.triangle_count.Statement.{statement}
 use Rattle.layout.proofs.triangle_count.Tie as tie
 

@@ -1,6 +1,6 @@
 -- `layout::vertex_count` meets its contract: V is the trailer's number at 4. Assumes nothing.
-use Rattle.paper.specs.File.{fileV}
 use borrow.Author.Needs.{needs}
+use Rattle.paper.specs.File.{fileV}
 use Rattle.layout.proofs.vertex_count.Statement.{statement}
 use Rattle.layout.proofs.vertex_count.Tie as tie
 

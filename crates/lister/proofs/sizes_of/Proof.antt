@@ -1,6 +1,6 @@
 -- `lister::sizes_of` meets its contract: each size is a number of the header. Assumes nothing.
-use Rattle.lister.specs.Listing.{listedSizes}
 use borrow.Author.Needs.{needs}
+use Rattle.lister.specs.Listing.{listedSizes}
 use Rattle.lister.proofs.sizes_of.Statement.{statement}
 use Rattle.lister.proofs.sizes_of.Tie as tie
 

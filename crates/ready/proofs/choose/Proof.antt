@@ -2,9 +2,8 @@
 use borrow.Author.Needs.{needs}
 use mathlib.Core.Path.{sym, subst}
 use denote.Ref.{now}
-use Rattle.paper.specs.Lattice.{lattice}
 use Rattle.paper.specs.declared.Start.{Start}
-use Rattle.ready.specs.Ready.{Chosen}
+use Rattle.ready.specs.Ready.{ChosenBy}
 use Rattle.ready.proofs.choose.Statement.{statement}
 use Rattle.ready.proofs.choose.Tie as tie
 
@@ -22,13 +21,13 @@ named-cube-requires c κs = search needs
 
 returns : tie.Need-returns
 returns c =
-    let L = lattice (c .before .before .before .args .sizes) (now (c .before .before .before .args .samples)) in
-    subst (λ (s : Start). Chosen L s (c .lowest-cube .result)) (sym (c .before .enum-told .given .1)) (c .lowest-cube .ensures)
+    let a = c .before .before .before .before .args in
+    subst (λ (s : Start). ChosenBy (a .sizes) (now (a .rows)) s (c .lowest-cube .result)) (sym (c .before .enum-told .given .1)) (c .lowest-cube .ensures)
 
 returns-2 : tie.Need-returns-2
 returns-2 c =
-    let L = lattice (c .before .before .before .before .args .sizes) (now (c .before .before .before .before .args .samples)) in
-    subst (λ (s : Start). Chosen L s (c .named-cube .result)) (sym (c .before .before .start .given .1)) (c .named-cube .ensures)
+    let a = c .before .before .before .before .before .args in
+    subst (λ (s : Start). ChosenBy (a .sizes) (now (a .rows)) s (c .named-cube .result)) (sym (c .before .before .start .given .1)) (c .named-cube .ensures)
 
 pub choose-spec : {M : Type 1} → statement M
 choose-spec =

@@ -14,21 +14,50 @@ is-cube-requires c κs = search needs
 
 returns : tie.Need-returns
 unfolding startTests
-returns c = record { answer = rw (sym (c .before .is-cube .ensures) ∙ not-true _ (c .if1 .taken)); is = λ e. absurd (omega arith); below = λ e. absurd (omega arith) }
+returns c = record {
+  of = λ v h.
+      record {
+        answer = rw (sym (c .before .is-cube .ensures) ∙ not-true _ (c .if1 .taken));
+        is = λ e. absurd (omega arith);
+        below = λ e. absurd (omega arith);
+      };
+}
 
 crossed-at-requires : tie.Need-crossed-at-requires
-crossed-at-requires c κs = (c .before .before .pre, in-lattice _ _ (eq→T (sym (c .before .is-cube .ensures) ∙ not-false _ (c .if1 .left))))
+crossed-at-requires c κs = (c .before .before .before .pre .0, c .before .before .before .pre .1, in-lattice _ _ (eq→T (sym (c .before .is-cube .ensures) ∙ not-false _ (c .if1 .left))))
 
 returns-2 : tie.Need-returns-2
 unfolding startTests
-returns-2 c = record { answer = rw (sym (c .before .before .before .is-cube .ensures) ∙ not-false _ (c .before .before .if1 .left), sym (c .before .crossed-at .ensures) ∙ not-true _ (c .if2 .taken)); is = λ e. absurd (omega arith); below = λ e. absurd (omega arith) }
+returns-2 c = record {
+  of = λ v h.
+      record {
+        answer =
+            rw (
+              sym (c .before .before .before .is-cube .ensures) ∙ not-false _ (c .before .before .if1 .left),
+              sym (c .before .crossed-at .ensures v h) ∙ not-true _ (c .if2 .taken),
+            );
+        is = λ e. absurd (omega arith);
+        below = λ e. absurd (omega arith);
+      };
+}
 
 cube-no-requires : tie.Need-cube-no-requires
-cube-no-requires c κs = (c .before .before .before .before .pre .sized, in-lattice _ _ (eq→T (sym (c .before .before .before .is-cube .ensures) ∙ not-false _ (c .before .before .if1 .left))))
+cube-no-requires c κs = (c .before .before .before .before .before .pre .0, in-lattice _ _ (eq→T (sym (c .before .before .before .is-cube .ensures) ∙ not-false _ (c .before .before .if1 .left))))
 
 returns-3 : tie.Need-returns-3
 unfolding startTests
-returns-3 c = record { answer = rw (sym (c .before .before .before .before .is-cube .ensures) ∙ not-false _ (c .before .before .before .if1 .left), sym (c .before .before .crossed-at .ensures) ∙ not-false _ (c .before .if2 .left)); is = λ e. c .cube-no .ensures .0; below = λ e. c .cube-no .ensures .1 }
+returns-3 c = record {
+  of = λ v h.
+      record {
+        answer =
+            rw (
+              sym (c .before .before .before .before .is-cube .ensures) ∙ not-false _ (c .before .before .before .if1 .left),
+              sym (c .before .before .crossed-at .ensures v h) ∙ not-false _ (c .before .if2 .left),
+            );
+        is = λ e. c .cube-no .ensures .0;
+        below = λ e. c .cube-no .ensures .1;
+      };
+}
 
 pub named-cube-spec : {M : Type 1} → statement M
 named-cube-spec =

@@ -8,7 +8,7 @@ use Rattle.lists.proofs.Member.{eq→T, and3}
 use Rattle.paper.specs.declared.Sizes.{Sizes}
 use Rattle.paper.specs.Room.{Lengths, needed, neededSlots, roomy}
 use Rattle.paper.specs.Build.{shapeTests}
-use Rattle.paper.specs.Within.{Sized, Full, Roomy}
+use Rattle.paper.specs.Within.{Sized, Roomy}
 use Rattle.paper.proofs.Visits.{sized}
 use Rattle.ready.proofs.shape.Statement.{statement}
 use Rattle.ready.proofs.shape.Tie as tie

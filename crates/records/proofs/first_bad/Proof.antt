@@ -12,8 +12,7 @@ use Rattle.lists.proofs.Firsts.{first-found, first-missing}
 use Rattle.paper.specs.Lattice.{Lattice, lattice}
 use Rattle.paper.specs.Room.{neededSlots}
 use Rattle.paper.specs.File.{fileV, fileVertices}
-use Rattle.measure.specs.Crossed.{AllCross}
-use Rattle.records.specs.Records.{goodEdge, slotsAfter, badIn, firstBadIn}
+use Rattle.records.specs.Records.{AllCross, goodEdge, slotsAfter, badIn, firstBadIn}
 use Rattle.records.proofs.Laws.{Found, record-bad, record-good, after-none, after-more, after-length, after-crossing}
 use Rattle.records.proofs.first_bad.Statement.{statement}
 use Rattle.records.proofs.first_bad.Tie as tie

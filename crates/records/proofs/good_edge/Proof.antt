@@ -20,7 +20,7 @@ use Rattle.paper.specs.File.{fileVertices}
 use Rattle.paper.specs.Check.{sameNumbers, recordOf, edgeOf}
 use Rattle.paper.proofs.Numbers.{sample-back}
 use Rattle.crossing.specs.Vertex.{Crosses}
-use Rattle.survey.specs.Marks.{used}
+use Rattle.dots.specs.Slots.{used}
 use Rattle.records.specs.Records.{edgeIn, edgeAt}
 use Rattle.records.proofs.Laws.{edge-out, edge-idle, edge-wrong, edge-right}
 use borrow.Author.Needs.{needs}

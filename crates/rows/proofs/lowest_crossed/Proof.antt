@@ -7,10 +7,9 @@ use borrow.Author.Count.{below-more}
 use denote.Ref.{now}
 use Rattle.paper.specs.Lattice.{lattice, place, cubeNo}
 use Rattle.paper.specs.Within.{CubeIn}
-use Rattle.sides.proofs.Search.{next, full}
 use Rattle.bits.specs.Words.{bit}
 use Rattle.rows.specs.Rows.{lookedAt}
-use Rattle.rows.proofs.Search.{Seeking, Looking, none-looked, looked-le, row-bit, clear-row, none-lowest, found-lowest}
+use Rattle.rows.proofs.Search.{next, full, Seeking, Looking, none-looked, looked-le, row-bit, clear-row, none-lowest, found-lowest}
 use borrow.Author.Needs.{needs}
 use Rattle.rows.proofs.lowest_crossed.Statement.{statement}
 use Rattle.rows.proofs.lowest_crossed.Tie as tie

@@ -1,6 +1,6 @@
 -- `stl::facet_count` meets its contract. Assumes nothing.
-use Rattle.stl.specs.Stl.{stlCount}
 use borrow.Author.Needs.{needs}
+use Rattle.stl.specs.Stl.{stlCount}
 use Rattle.stl.proofs.facet_count.Statement.{statement}
 use Rattle.stl.proofs.facet_count.Tie as tie
 

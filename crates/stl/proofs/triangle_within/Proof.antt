@@ -1,7 +1,7 @@
 -- `stl::triangle_within` meets its contract. Assumes nothing.
-use Rattle.layout.proofs.Flags.{fails, passes}
-use Rattle.stl.specs.Stl.{triangleWithin}
 use borrow.Author.Needs.{needs}
+use Rattle.stl.specs.Stl.{triangleWithin}
+use Rattle.layout.proofs.Flags.{fails, passes}
 use Rattle.stl.proofs.triangle_within.Statement.{statement}
 use Rattle.stl.proofs.triangle_within.Tie as tie
 

@@ -1,20 +1,18 @@
 -- After x cubes their triangles are stored. Assumes nothing.
-use mathlib.Core.Path.{_≡_, sym, ap, _∙_}
+use mathlib.Core.Path.{_≡_}
 use mathlib.Core.List.{List}
-use Prim.Native.Nat.{ℕ, _+_, _-_}
+use Prim.Native.Nat.{ℕ, _-_}
 use native.Mathlib.Omega.{arith}
-use lib.ListN.{length, length-append}
-use lib.Seq.{sets, length-sets}
+use lib.ListN.{length}
 use denote.Ref.{now}
-use Rattle.lists.proofs.Stores.{sets-next}
-use Rattle.tiles.specs.Tiles.{Source, source, tileAt, rowTiles}
-use Rattle.tiles.proofs.Laws.{Written, row-none, row-more, row-fit}
+use Rattle.tiles.specs.Tiles.{source, tileAt, rowTiles}
+use Rattle.tiles.proofs.Laws.{Laid, laid-none, laid-long, laid-fit, laid-more, laid-all}
 use borrow.Author.Needs.{needs}
 use Rattle.tiles.proofs.put_row.Statement.{statement}
 use Rattle.tiles.proofs.put_row.Tie as tie
 
 abbrev Inv-loop : tie.InvT-loop
-Inv-loop table counts slots q v base n out₀ at next₀ x₀ out next x = Written (source table counts slots) q v base at n x next out₀ out
+Inv-loop table counts slots q v base n out₀ at next₀ x₀ out next x = Laid (tileAt (source table counts slots) q v base) at n x next out₀ out
 
 abbrev μ-loop : tie.MeasureT-loop
 μ-loop table counts slots q v base n out₀ at next₀ x₀ out next x = n - x
@@ -22,37 +20,32 @@ abbrev μ-loop : tie.MeasureT-loop
 abbrev start : tie.At-loop Inv-loop μ-loop → tie.Start Inv-loop μ-loop
 start c = c .before .before .before .before .before
 
-abbrev from : tie.Start Inv-loop μ-loop → Source
-from s = source (now (s .args .table)) (now (s .args .counts)) (now (s .args .slots))
-
--- the numbers of the first x cubes
-abbrev done : tie.Start Inv-loop μ-loop → ℕ → List ℕ
-done s x = rowTiles (from s) (s .args .q) (s .args .v) (s .args .base) x
+-- the numbers of a cube
+abbrev one : tie.Start Inv-loop μ-loop → ℕ → List ℕ
+one s = tileAt (source (now (s .args .table)) (now (s .args .counts)) (now (s .args .slots))) (s .args .q) (s .args .v) (s .args .base)
 
 long : (c : tie.At-loop Inv-loop μ-loop) → length (c .loop .out) ≡ length (now (start c .args .out))
 long c =
     let s = start c in
-    ap length (c .loop .inv .written) ∙ length-sets (now (s .args .out)) (s .args .at) (done s (c .loop .x))
+    laid-long (one s) (s .args .at) (s .args .n) (c .loop .x) (c .loop .next) (now (s .args .out)) (c .loop .out) (c .loop .inv)
 
 loop-holds : tie.Need-loop-holds Inv-loop μ-loop
 loop-holds c =
     let s = c .before .before .before .before in
-    let e = row-none (from s) (s .args .q) (s .args .v) (s .args .base) in
-    record {
-      upto = omega arith;
-      written = ap (sets (now (s .args .out)) (s .args .at)) e;
-      next-is = omega (arith, ap length e);
-    }
+    laid-none (one s) (s .args .at) (s .args .n) (now (s .args .out))
 
 put-place-requires : tie.Need-put-place-requires Inv-loop μ-loop
+unfolding rowTiles
 put-place-requires c κs =
     let l = c .before .before in
     let s = start l in
-    let a = s .args in
-    let x = l .loop .x in
-    let fit = row-fit (from s) (a .q) (a .v) (a .base) x (a .n) (omega arith) in (
+    let a = s .args in (
       (s .pre .0 .0, s .pre .0 .1, omega (arith, s .pre .0 .2), s .pre .0 .3),
-      (record { cube = λ y h t. s .pre .1 .0 .cube y (omega arith) t }, omega (arith, s .pre .1 .1, long l, l .loop .inv .next-is, fit)),
+      (
+        record { cube = λ y h t. s .pre .1 .0 .cube y (omega arith) t },
+        laid-fit (one s) (a .at) (a .n) (l .loop .x) (l .loop .next) (now (a .out)) (l .loop .out) (l .loop .inv) (omega arith)
+            (s .pre .1 .1),
+      ),
     )
 
 add-x : tie.Need-add-x Inv-loop μ-loop
@@ -67,29 +60,19 @@ loop-again c =
     let l = p .before .before .before in
     let s = start l in
     let a = s .args in
-    let x = l .loop .x in
-    let i = l .loop .inv in
-    let g = tileAt (from s) (a .q) (a .v) (a .base) x in
-    let e = row-more (from s) (a .q) (a .v) (a .base) x in
-    record {
-      upto = omega arith;
-      written =
-          sets-next (now (a .out)) (a .at) (l .loop .next) (done s x) g (sym (i .next-is)) (i .written) (p .put-place .ensures .0)
-          ∙ ap (sets (now (a .out)) (a .at)) e;
-      next-is = omega (arith, p .put-place .ensures .1, i .next-is, ap length e, length-append (done s x) g);
-    }
+    laid-more (one s) (a .at) (a .n) (l .loop .x) (l .loop .next) (now (a .out)) (l .loop .out) (l .loop .inv) _ _ (omega arith)
+    (p .put-place .ensures .0) (p .put-place .ensures .1)
 
 same-length : tie.Need-same-length Inv-loop μ-loop
 same-length c = long (c .before)
 
 returns : tie.Need-returns Inv-loop μ-loop
+unfolding rowTiles
 returns c =
     let l = c .before in
     let s = start l in
     let a = s .args in
-    let q : l .loop .x ≡ a .n = omega arith in
-    let e = ap (done s) q in
-    (l .loop .inv .written ∙ ap (sets (now (a .out)) (a .at)) e, l .loop .inv .next-is ∙ ap (λ (ts : List ℕ). a .at + length ts) e)
+    laid-all (one s) (a .at) (a .n) (l .loop .x) (l .loop .next) (now (a .out)) (l .loop .out) (l .loop .inv) (omega arith)
 
 pub put-row-spec : {M : Type 1} → statement M
 put-row-spec =

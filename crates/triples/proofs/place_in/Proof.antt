@@ -8,9 +8,6 @@ use Rattle.triples.proofs.place_in.Tie as tie
 returns : tie.Need-returns
 returns c = (rw (eq-eqb _ 0 (c .if1 .taken)), omega arith)
 
-cast-place-from : tie.Need-cast-place-from
-cast-place-from c = search needs
-
 place-from-requires : tie.Need-place-from-requires
 place-from-requires c κs = search needs
 
@@ -18,4 +15,4 @@ returns-2 : tie.Need-returns-2
 returns-2 c = (rw (ne-eqb _ 0 (c .before .if1 .left)) (c .place-from .ensures .0), c .place-from .ensures .1)
 
 pub place-in-spec : {M : Type 1} → statement M
-place-in-spec = tie.close (tie.spec returns cast-place-from place-from-requires returns-2)
+place-in-spec = tie.close (tie.spec returns place-from-requires returns-2)

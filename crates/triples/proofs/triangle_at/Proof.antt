@@ -1,7 +1,7 @@
 -- The three corners. Assumes nothing.
-use Rattle.paper.specs.Tables.{tri}
-use Rattle.paper.specs.Check.{triangleOf}
 use borrow.Author.Needs.{needs}
+use Rattle.paper.specs.Check.{triangleOf}
+use Rattle.paper.specs.Tables.{tri}
 use Rattle.triples.proofs.triangle_at.Statement.{statement}
 use Rattle.triples.proofs.triangle_at.Tie as tie
 

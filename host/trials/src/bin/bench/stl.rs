@@ -1,6 +1,6 @@
 //! STL: the library's writer and reader beside plain C loops with the same tests (`stl.c`).
 
-use crate::{ms, time};
+use crate::rows::{ms, time};
 use host::abi;
 use std::time::Duration;
 

@@ -1,0 +1,26 @@
+-- Numbers that stand in a file's, one behind the other. Assumes nothing.
+use mathlib.Core.Path.{_≡_}
+use mathlib.Core.List.{List}
+use Prim.Native.Nat.{ℕ, _+_, _*_, _≤_}
+use lib.IntN.{ℤ}
+use lib.ListN.{length, take, drop}
+use Rattle.lists.specs.Lists.{each, Beyond}
+use Rattle.paper.specs.Lattice.{Lattice}
+use Rattle.paper.specs.Room.{neededSlots}
+use Rattle.paper.specs.Sheet.{vertexRecord}
+use Rattle.dots.specs.Dots.{Numbers}
+
+-- the numbers ts stand in fs from place `at` on, and next is the place behind them
+pub record Follows {A : Type 0} (fs : List A) (at : ℕ) (ts : List A) (next : ℕ) : Type 0 where
+  pub is : take (length ts) (drop at fs) ≡ ts
+  pub next-is : next ≡ at + length ts
+
+-- the vertices of the edges es stand in a file's numbers from vertex `at` on, and the slots of es are numbered from there
+pub record Listed (L : Lattice) (es : List ℕ) (fs : List ℤ) (at : ℕ) (before : List ℕ) (next : ℕ) (after : List ℕ) : Type 0 where
+  pub follows : Follows fs (4 * at) (each (vertexRecord L) es) (4 * next)
+  pub numbers : Numbers es at before next after
+
+-- so they are where next is at most nv, and in any case only slots of edges are written
+pub record Listing (L : Lattice) (es : List ℕ) (fs : List ℤ) (nv at : ℕ) (before : List ℕ) (next : ℕ) (after : List ℕ) : Type 0 where
+  pub listed : next ≤ nv → Listed L es fs at before next after
+  pub beyond : Beyond (neededSlots (L .size)) before after

@@ -1,0 +1,93 @@
+-- The place of the cube, and fewer rows than cubes. Assumes nothing.
+use mathlib.Core.Path.{_≡_, sym, ap, subst, _∙_}
+use mathlib.Core.List.{List}
+use Prim.Native.Nat.{ℕ, _+_, _-_, _≤_}
+use native.Mathlib.Omega.{arith}
+use native.Mathlib.Nat.{mul-le-mul}
+use lib.ListN.{length, drop}
+use lib.Seq.{drop-drop}
+use Rattle.lists.specs.Lists.{Beyond}
+use Rattle.paper.specs.declared.Sizes.{Sizes}
+use Rattle.paper.specs.Lattice.{Lattice, lattice, cubes, cubeNo, visited}
+use Rattle.paper.specs.Room.{needed}
+use Rattle.paper.specs.Within.{Sized}
+use Rattle.paper.proofs.Numbers.{cube-back}
+use Rattle.rows.specs.Rows.{HasCubes}
+use Rattle.spread.specs.Ways.{rowsOf}
+use borrow.Author.Needs.{needs}
+use Rattle.spread.proofs.visit.Statement.{statement}
+use Rattle.spread.proofs.visit.Tie as tie
+
+rows-few : (z : Sizes) → Sized z → rowsOf z ≤ needed z
+unfolding cubes
+rows-few z s =
+    let w : 1 ≤ z .nx - 1 = omega (arith, s .x-low) in
+    let m : rowsOf z ≤ rowsOf z = omega arith in
+    omega (arith, mul-le-mul {n₂ = z .nx - 1} {m₂ = rowsOf z} w m)
+
+-- past a longer front there is less to tell
+beyond-more : (m n : ℕ) (l₀ l : List ℕ) → m ≤ n → Beyond m l₀ l → Beyond n l₀ l
+beyond-more m n l₀ l h b =
+    let q : m + (n - m) ≡ n = omega arith in
+    record {
+      same-length = b .same-length;
+      rest =
+          sym (drop-drop (n - m) m l ∙ ap (λ (k : ℕ). drop k l) q)
+          ∙ (ap (drop (n - m)) (b .rest) ∙ (drop-drop (n - m) m l₀ ∙ ap (λ (k : ℕ). drop k l₀) q));
+    }
+
+-- the same cubes, where the start is the same
+from-same : (L : Lattice) (j k : ℕ) → j ≡ k → (vis : List ℕ) → HasCubes (L .size) (visited L j) vis → HasCubes (L .size) (visited L k) vis
+from-same L j k e vis h = subst (λ (k : ℕ). HasCubes (L .size) (visited L k) vis) e h
+
+abbrev start : tie.After-cube-at → tie.Start
+start c = c .before .before .before .before
+
+cube-at-requires : tie.Need-cube-at-requires
+cube-at-requires c κs = search needs
+
+flood-from-requires : tie.Need-flood-from-requires
+flood-from-requires c κs =
+    let at-cube = c .before .before in
+    let s = start at-cube in
+    let p = s .pre .0 in (
+      (p .0, at-cube .cube-at .ensures .1, p .2),
+      (s .pre .1 .0, omega (arith, rows-few (s .args .z) (p .0), s .pre .1 .1)),
+    )
+
+same-length : tie.Need-same-length
+same-length c = search needs
+
+same-length-2 : tie.Need-same-length-2
+same-length-2 c = search needs
+
+returns : tie.Need-returns
+returns c =
+    let at-flood = c .before .before .before .before in
+    let at-cube = at-flood .before .before .before in
+    let b = start at-cube in
+    let z = b .args .z in
+    let p = b .pre .0 in
+    let f = at-flood .flood-from in
+    let e : cubeNo z (at-cube .cube-at .result) ≡ b .args .k =
+    ap (cubeNo z) (at-cube .cube-at .ensures .0) ∙ cube-back z (p .0) (b .args .k) (p .1) in
+    record {
+      stands = λ s h.
+          record {
+            below = p .1;
+            sides = h;
+            cubes = from-same (lattice z s) _ _ e _ (f .ensures .visits s h .cubes);
+          };
+      number = λ s h. f .ensures .visits s h .number ∙ ap (λ (k : ℕ). length (visited (lattice z s) k)) e;
+      beyond = beyond-more _ _ _ _ (rows-few z (p .0)) (f .ensures .on-waiting);
+    }
+
+pub visit-spec : {M : Type 1} → statement M
+visit-spec =
+    tie.close
+    (tie.spec
+    cube-at-requires
+    flood-from-requires
+    same-length
+    same-length-2
+    returns)

@@ -1,3 +1,0 @@
--- Laws of the passes.
-pub mod Laws
-pub mod Cubes

@@ -1,2 +1,0 @@
--- Laws of triangles one behind the other.
-pub mod Laws

@@ -1,2 +1,0 @@
--- Laws of records one behind the other.
-pub mod Laws
