@@ -26,9 +26,16 @@ begin() {
 }
 
 say "" "MALXUQEED: A TRAY FROM SCAN TO AUDIT" ""
-say "1. The scan. Four housings stand on the floor of one tray; two of them have pores inside."
+say "1. The scan. Four housings stand on the floor of one tray; two of them have pores inside. Outside its round field of view" \
+    "   the scanner sees nothing and writes a grey of its own, the fill. Read as material, that ring is a false wall: one surface" \
+    "   more, and the first that is found."
 show tray .
-show malxuqeed from-raw tray.raw tray.vol --sizes 64,64,40 --type u16 --level 20000
+show malxuqeed from-raw tray.raw walls.vol --sizes 64,64,40 --type u16 --level 20000
+begin 8 malxuqeed info walls.vol
+show malxuqeed build walls.vol wall.sheet
+show malxuqeed picture wall.sheet wall.png
+say "   With --fill it is no sample, and no cube that holds it is visited."
+show malxuqeed from-raw tray.raw tray.vol --sizes 64,64,40 --type u16 --level 20000 --fill 65535
 show malxuqeed info tray.vol
 say ""
 
@@ -52,13 +59,13 @@ show malxuqeed check tray.vol sorted.sheet --start auto
 show malxuqeed picture sorted.sheet sorted.png --volume tray.vol
 say ""
 
-say "4. The audit. The archive with that sheet, a damaged, a cut and a lost one; no starts are recorded."
+say "4. The audit. The archive with that sheet, the false wall, a damaged, a cut and a lost one; no starts are recorded."
 cp $pore.sheet changed.sheet
 printf '\377' | dd of=changed.sheet bs=1 seek=37 conv=notrunc 2>/dev/null
 head -c 1000 $pore.sheet >cut.sheet
 {
     cut -d ' ' -f 1,2 manifest.txt
-    for sheet in sorted changed cut lost; do say "tray.vol $sheet.sheet"; done
+    for sheet in sorted wall changed cut lost; do say "tray.vol $sheet.sheet"; done
 } >archive.txt
 show malxuqeed audit archive.txt --csv audit.csv --html audit.html
 begin 3 cut -d , -f 1-9 audit.csv
@@ -69,5 +76,5 @@ show malxuqeed stl housing-2.sheet housing-2.stl
 show malxuqeed stl $pore.sheet $pore.stl
 begin 3 malxuqeed facets $pore.stl
 say ""
-say "All files are in host/target/demo: look at $pore.png, sorted.png and audit.html, and at housing-2.stl in a viewer." \
+say "All files are in host/target/demo: look at wall.png, $pore.png, sorted.png and audit.html, and at housing-2.stl in a viewer." \
     "'malxuqeed help' tells what else there is, and docs/MANUAL.md how to go on with a scan of your own."

@@ -49,7 +49,7 @@ view() {
 }
 
 tray . >/dev/null
-malxuqeed from-raw tray.raw tray.vol --sizes 64,64,40 --type u16 --level 20000 >/dev/null
+malxuqeed from-raw tray.raw tray.vol --sizes 64,64,40 --type u16 --level 20000 --fill 65535 >/dev/null
 admesh --version | head -n 1
 echo 'sheet               facets  no area  dropped  is     disconnected  volume in sample steps'
 while read -r volume sheet start; do

@@ -11,7 +11,7 @@
  *
  * Lent work room may hold anything on entry. After a success, and after 6, 7 (building), 17, 18 and 19, its needed front is
  * all 0; after any other refusal it is as it was. No refusal writes to output, and nothing beyond what is written changes.
- * The library takes up to 132 KB of stack and no memory of its own. */
+ * The library takes up to 164 KB of stack and no memory of its own. */
 #ifndef MALXUQEED_H
 #define MALXUQEED_H
 
@@ -23,7 +23,8 @@
 extern "C" {
 #endif
 
-/* Samples on each axis: 2 to 64, or the answer is MALXUQEED_AXIS. Sample (x, y, z) has number x + nx * (y + ny * z). */
+/* Samples on each axis: 2 to 64, or the answer is MALXUQEED_AXIS. Sample (x, y, z) has number x + nx * (y + ny * z).
+ * A sample of -32768 is the fill, which is no sample: a cube with such a corner is never visited. */
 typedef struct { size_t nx, ny, nz; } malxuqeed_sizes;
 
 /* A cube of the lattice, by its lowest corner: each coordinate is below its axis minus 1. */
@@ -61,7 +62,7 @@ static inline const char *malxuqeed_meaning(size_t number)
     case MALXUQEED_WORK: return "a lent work slice is too short";
     case MALXUQEED_START: return "the named start is not a cube of the lattice";
     case MALXUQEED_NOT_CROSSED:
-        return "the surface does not pass through the start cube, or, where none was named, through any cube";
+        return "the surface does not pass through the start cube, or that holds the fill, or, none named, through any cube free of the fill";
     case MALXUQEED_VERTEX_ROOM: return "the sheet has more vertices than there is room for";
     case MALXUQEED_TRIANGLE_ROOM: return "the sheet has more triangles than there is room for";
     case MALXUQEED_BYTES: return "the lent bytes are too few for the file";

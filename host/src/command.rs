@@ -49,7 +49,7 @@ impl Opt {
 pub const START: Opt = Opt::with(
     "--start",
     "X,Y,Z",
-    "the start cube, by its lowest corner; without it, the lowest cube that the surface crosses",
+    "the start cube, by its lowest corner; without it, the lowest cube that a surface crosses and that is free of the fill",
 );
 
 /// The start of a sheet that is there already.

@@ -2,7 +2,7 @@
 //! answers; no verdict hangs on them.
 
 use crate::abi::{Place, Sizes};
-use crate::volume::Volume;
+use crate::volume::{Volume, FILL};
 
 /// The ends of each kind of edge, from its anchor (document 01).
 const ENDS: [[[usize; 3]; 2]; 7] = [
@@ -56,25 +56,46 @@ impl Cubes<'_> {
         cube.x + nx * (cube.y + ny * cube.z)
     }
 
-    fn is_air(&self, [x, y, z]: [usize; 3]) -> bool {
-        self.volume.samples[x + self.sizes[0] * (y + self.sizes[1] * z)] > 0
+    fn sample(&self, [x, y, z]: [usize; 3]) -> i16 {
+        self.volume.samples[x + self.sizes[0] * (y + self.sizes[1] * z)]
+    }
+
+    fn is_air(&self, at: [usize; 3]) -> bool {
+        self.sample(at) > 0
+    }
+
+    /// The samples at a cube's corners.
+    pub fn corners(&self, cube: Place) -> [i16; 8] {
+        let corner = |bit: usize| [cube.x + (bit & 1), cube.y + (bit >> 1 & 1), cube.z + (bit >> 2)];
+        std::array::from_fn(|bit| self.sample(corner(bit)))
+    }
+
+    /// Whether no corner is the fill.
+    fn is_visitable(&self, cube: [usize; 3]) -> bool {
+        !self.corners(place(cube)).contains(&FILL)
     }
 
     /// A bit for each corner that is air.
-    fn pattern(&self, [x, y, z]: [usize; 3]) -> u8 {
-        let corner = |bit: usize| self.is_air([x + (bit & 1), y + (bit >> 1 & 1), z + (bit >> 2)]);
-        (0..8).fold(0, |pattern, bit| pattern | u8::from(corner(bit)) << bit)
+    fn pattern(&self, cube: [usize; 3]) -> u8 {
+        let corners = self.corners(place(cube));
+        (0..8).fold(0, |pattern, bit| pattern | u8::from(corners[bit] > 0) << bit)
     }
 
     pub fn is_crossed(&self, number: usize) -> bool {
-        !matches!(self.pattern(self.at(number)), 0 | 255)
+        let cube = self.at(number);
+        self.is_visitable(cube) && !matches!(self.pattern(cube), 0 | 255)
+    }
+
+    /// How many cubes have the fill at a corner.
+    pub fn filled(&self) -> usize {
+        (0..self.count()).filter(|&number| !self.is_visitable(self.at(number))).count()
     }
 
     pub fn lowest_crossed(&self) -> Option<Place> {
         (0..self.count()).find(|&number| self.is_crossed(number)).map(|number| place(self.at(number)))
     }
 
-    /// The cubes across the mixed faces of a cube.
+    /// The visitable cubes across the mixed faces of a cube.
     fn neighbours(&self, cube: [usize; 3]) -> impl Iterator<Item = [usize; 3]> + '_ {
         let pattern = self.pattern(cube);
         let mixed = move |face: usize| {
@@ -85,7 +106,7 @@ impl Cubes<'_> {
             let mut next = cube;
             let axis = face / 2;
             next[axis] = if face % 2 == 0 { cube[axis].checked_sub(1)? } else { cube[axis] + 1 };
-            (next[axis] < self.sizes[axis] - 1).then_some(next)
+            (next[axis] < self.sizes[axis] - 1 && self.is_visitable(next)).then_some(next)
         })
     }
 
@@ -116,24 +137,35 @@ impl Cubes<'_> {
         (pieces, of)
     }
 
-    /// The cubes that have both ends of an edge, by rising number, where the ends are on different sides: a sheet with a
-    /// vertex there passes through one of them.
-    pub fn round_edge(&self, edge: i32) -> Vec<Place> {
-        let Ok(edge) = usize::try_from(edge) else { return Vec::new() };
-        let [nx, ny, nz] = self.sizes;
+    /// The ends of an edge by its number; nothing where it is no edge of the lattice.
+    fn ends(&self, edge: i32) -> Option<[[usize; 3]; 2]> {
+        let edge = usize::try_from(edge).ok()?;
+        let [nx, ny, _] = self.sizes;
         let anchor = [edge / 7 % nx, edge / 7 / nx % ny, edge / 7 / nx / ny];
         let ends = ENDS[edge % 7].map(|end| [0, 1, 2].map(|axis| anchor[axis] + end[axis]));
-        let outside = ends.iter().any(|end| end[0] >= nx || end[1] >= ny || end[2] >= nz);
-        if outside || self.is_air(ends[0]) == self.is_air(ends[1]) {
+        let inside = |end: &[usize; 3]| (0..3).all(|axis| end[axis] < self.sizes[axis]);
+        ends.iter().all(inside).then_some(ends)
+    }
+
+    /// Whether an edge ends at the fill.
+    pub fn ends_at_fill(&self, edge: i32) -> bool {
+        self.ends(edge).is_some_and(|ends| ends.iter().any(|end| self.sample(*end) == FILL))
+    }
+
+    /// The visitable cubes that have both ends of an edge, by rising number, where the ends are on different sides: a sheet
+    /// with a vertex there passes through one of them. Where fill parts them they may be of several surfaces.
+    pub fn round_edge(&self, edge: i32) -> Vec<Place> {
+        let Some(ends) = self.ends(edge).filter(|ends| self.is_air(ends[0]) != self.is_air(ends[1])) else {
             return Vec::new();
-        }
+        };
         // on an axis where the ends differ the lower one is the cube's, else the cube lies on either side
         let span = |axis: usize| {
             let (low, high) = (ends[0][axis].min(ends[1][axis]), ends[0][axis].max(ends[1][axis]));
             high.saturating_sub(1)..=low.min(self.sizes[axis] - 2)
         };
         let row = |y, z| span(0).map(move |x| Place { x, y, z });
-        span(2).flat_map(|z| span(1).map(move |y| (y, z))).flat_map(|(y, z)| row(y, z)).collect()
+        let round = span(2).flat_map(|z| span(1).map(move |y| (y, z))).flat_map(|(y, z)| row(y, z));
+        round.filter(|cube| self.is_visitable([cube.x, cube.y, cube.z])).collect()
     }
 }
 
@@ -160,6 +192,26 @@ mod tests {
         assert_eq!(pieces, [Piece { start: Place::default(), cubes: 8 }]);
         assert_eq!(Cubes::of(&volume([2, 2, 2], &[])).and_then(|cubes| cubes.lowest_crossed()), None);
         assert!(Cubes::of(&Volume::default()).is_none());
+    }
+
+    #[test]
+    fn fill_parts_pieces_and_is_no_part_of_any() {
+        let mut single = volume([3, 3, 3], &[13]);
+        single.samples[0] = FILL;
+        let cubes = Cubes::of(&single).expect("a whole volume");
+        let first = Place { x: 1, y: 0, z: 0 };
+        assert_eq!(cubes.pieces().0, [Piece { start: first, cubes: 7 }]);
+        assert_eq!((cubes.lowest_crossed(), cubes.filled(), cubes.pieces().1[0]), (Some(first), 1, None));
+
+        let mut parted = volume([3, 3, 2], &[4]);
+        (parted.samples[0], parted.samples[8]) = (FILL, FILL);
+        let cubes = Cubes::of(&parted).expect("a whole volume");
+        let second = Place { x: 0, y: 1, z: 0 };
+        assert_eq!(cubes.pieces().0, [first, second].map(|start| Piece { start, cubes: 1 }));
+        assert_eq!(cubes.round_edge(30), [first, second]);
+        let edges: Vec<i32> = (0..7 * 18).filter(|edge| cubes.ends_at_fill(*edge)).collect();
+        assert_eq!(edges, [0, 1, 2, 34, 36, 38, 49, 53, 58]);
+        assert!(!cubes.ends_at_fill(-1) && !cubes.ends_at_fill(i32::MAX));
     }
 
     #[test]

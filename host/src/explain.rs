@@ -1,13 +1,14 @@
 //! A refusal in a sentence that names the files and their values, and says what to do.
 
 use crate::abi::{Place, Sizes, Verdict};
+use crate::cubes::Cubes;
 use crate::failure::shown;
 use crate::files;
 use crate::numbers;
 use crate::room;
 use crate::sheet::Sheet;
 use crate::stl::{self, Corners};
-use crate::volume::{self, Volume};
+use crate::volume::{self, Volume, FILL};
 use std::fmt::Display;
 use std::path::Path;
 
@@ -74,11 +75,11 @@ fn values(Verdict { number, place }: Verdict, about: &About) -> Option<String> {
                 shown(path)
             ))
         }
-        5 => about.volume.map(|(path, volume)| not_crossed(path, volume, about.start)),
+        5 => about.volume.and_then(|(path, volume)| not_crossed(path, volume, about.start)),
         14 if about.stl.is_some() => about.stl.map(|(path, bytes)| stl_length(path, bytes)),
         15 => about.sheet.and_then(|(path, bytes)| stray(place, path, bytes)),
         11..=16 => about.sheet.and_then(|(path, bytes)| layout(number, path, bytes, about)),
-        17 | 18 => about.sheet.and_then(|(path, bytes)| record(number, place, path, bytes)),
+        17 | 18 => about.sheet.and_then(|(path, bytes)| record(number, place, path, bytes, about.volume)),
         19 => {
             let (path, bytes) = about.sheet?;
             let Trailer { vertices, triangles, .. } = trailer(bytes)?;
@@ -113,19 +114,44 @@ fn samples(path: &Path, volume: &Volume) -> String {
     format!("{} asks for {wanted} samples, {} holds {held}", sizes_text(volume.sizes), shown(path))
 }
 
-fn not_crossed(path: &Path, volume: &Volume, start: Option<Place>) -> String {
-    match start {
+/// Refusal 5: what is at the start's corners, or why no cube is crossed.
+fn not_crossed(path: &Path, volume: &Volume, start: Option<Place>) -> Option<String> {
+    let cubes = Cubes::of(volume)?;
+    let name = shown(path);
+    Some(match start {
         Some(start) => {
-            let corner = volume.samples[start.x + volume.sizes.nx * (start.y + volume.sizes.ny * start.z)];
-            let side = if corner > 0 { "air" } else { "solid" };
-            format!("all eight corners of cube {} of {} are {side}", place_text(start), shown(path))
+            let (cube, corners) = (place_text(start), cubes.corners(start));
+            match corners.iter().filter(|corner| **corner == FILL).count() {
+                0 => {
+                    let side = if corners[0] > 0 { "air" } else { "solid" };
+                    format!("all eight corners of cube {cube} of {name} are {side}")
+                }
+                count => format!(
+                    "cube {cube} of {name} holds the scanner's fill: {count} of its eight corners are -32768, which is no \
+                     sample, and such a cube is never visited"
+                ),
+            }
         }
-        None => {
-            let (least, greatest) = (volume.samples.iter().min(), volume.samples.iter().max());
-            let (least, greatest) = (least.copied().unwrap_or(0), greatest.copied().unwrap_or(0));
-            let side = if least > 0 { "air" } else { "solid" };
-            format!("no surface is in {}: its samples are {least} to {greatest}, all {side}", shown(path))
-        }
+        None => format!("no surface is in {name}: {}", nowhere(volume)),
+    })
+}
+
+/// Why no cube of a volume is crossed.
+fn nowhere(volume: &Volume) -> String {
+    let Some((least, greatest)) = volume.range() else {
+        return "all its samples are -32768, the scanner's fill".to_string();
+    };
+    let filled = volume.samples.len() - volume.seen().count();
+    let range = format!("its samples are {least} to {greatest}");
+    match (least > 0, greatest > 0, filled) {
+        (true, _, 0) => format!("{range}, all air"),
+        (_, false, 0) => format!("{range}, all solid"),
+        (true, ..) => format!("{range}, all air, beside {filled} of -32768, the scanner's fill"),
+        (_, false, _) => format!("{range}, all solid, beside {filled} of -32768, the scanner's fill"),
+        _ => format!(
+            "{range}, but no cube free of the scanner's fill is crossed: {filled} samples are -32768, and a cube with such \
+             a corner is never visited"
+        ),
     }
 }
 
@@ -168,13 +194,15 @@ fn stray(place: usize, path: &Path, bytes: &[u8]) -> Option<String> {
 }
 
 /// Refusals 17 and 18: the record or triangle that is wrong.
-fn record(number: usize, place: usize, path: &Path, bytes: &[u8]) -> Option<String> {
+fn record(number: usize, place: usize, path: &Path, bytes: &[u8], volume: Option<(&Path, &Volume)>) -> Option<String> {
     let sheet = Sheet::read(bytes).ok()?;
     let what = numbers::meaning(number).replace("the sheet file", &shown(path));
     let found = match number {
         17 => {
             let [edge, x, y, z] = sheet.record(place.try_into().ok()?);
-            format!("vertex record {place}, counted from 0, says edge {edge} at {x} {y} {z}")
+            let filled = volume.and_then(|(_, volume)| Cubes::of(volume)).is_some_and(|cubes| cubes.ends_at_fill(edge));
+            let fill = if filled { ", and that edge ends at the scanner's fill" } else { "" };
+            format!("vertex record {place}, counted from 0, says edge {edge} at {x} {y} {z}{fill}")
         }
         _ => {
             let [a, b, c] = sheet.corners().nth(place)?;

@@ -29,9 +29,9 @@ fn check(volume: &Volume, bytes: &[u8], start: Option<Place>, room: &mut Room) -
     abi::check(volume.from(start), bytes, room.lend(volume.sizes))
 }
 
-/// A sheet's first record lies on an edge of a cube that the sheet passes through, and each such cube gives the same sheet.
-/// So the cubes round that edge are tried; if one of them is accepted, so is the file. Where that edge is crossed in no
-/// cube, the file is wrong from every start, and the first record that says more is taken instead.
+/// A sheet's first record lies on an edge of a cube that the sheet passes through. So the cubes round that edge are tried,
+/// which are on one surface, or on several where fill parts them; if one of them is accepted, so is the file. Where that edge
+/// is crossed in no cube, the file is wrong from every start, and the first record that says more is taken instead.
 fn automatic(volume: &Volume, bytes: &[u8], room: &mut Room) -> Judged {
     let unnamed = |room: &mut Room| Judged { verdict: check(volume, bytes, None, room), start: None };
     let Some(cubes) = Cubes::of(volume) else { return unnamed(room) };

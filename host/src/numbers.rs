@@ -84,9 +84,10 @@ pub const NUMBERS: [Number; 18] = [
     row(
         5,
         "NOT_CROSSED",
-        "the surface does not pass through the start cube, or, where none was named, through any cube",
-        "'malxuqeed info' lists starts of every surface of a volume; if it lists none, the level or the sign of the samples \
-         is wrong: air is above 0, solid is 0 and below.",
+        "the surface does not pass through the start cube, or that holds the fill, or, none named, through any cube free of the fill",
+        "'malxuqeed info' lists starts of every surface of a volume; a cube with a corner of -32768, the scanner's fill, is no \
+         start. If it lists none, the level or the sign of the samples is wrong: air is above 0, solid is 0 and below; or \
+         fill covers all that the surface passes through.",
     ),
     row(6, "VERTEX_ROOM", "the sheet has more vertices than there is room for", "Lend room for as many vertices as the answer counts."),
     row(7, "TRIANGLE_ROOM", "the sheet has more triangles than there is room for", "Lend room for as many triangles as the answer counts.")
@@ -147,8 +148,8 @@ pub const NUMBERS: [Number; 18] = [
         "vertex record",
         "a vertex of the sheet file is not on this surface, is at the wrong position, or comes twice",
         "Likely causes: the sheet is of another surface (try --start auto), of another scan or of another grey level; its \
-         writer rounds positions differently; or the file is damaged. If the volume and the start are right, do not use figures \
-         taken from it; build the sheet anew.",
+         writer rounds positions differently, or takes the scanner's fill for solid; or the file is damaged. If the volume and \
+         the start are right, do not use figures taken from it; build the sheet anew.",
     ),
     placed(
         18,

@@ -10,6 +10,9 @@ use std::path::Path;
 /// One byte more than the longest volume has; what stands behind is not read.
 pub const ENOUGH: u64 = 6 + 2 * 64 * 64 * 64 + 1;
 
+/// What the scanner writes where it sees nothing: no sample (document 02 (iii)). A cube with such a corner is never visited.
+pub const FILL: i16 = i16::MIN;
+
 /// What a volume file gives. A wrong one gives something that the library refuses with document 01's number.
 #[derive(Clone, Debug, Default, PartialEq, Eq)]
 pub struct Volume {
@@ -51,6 +54,16 @@ impl Volume {
         Lattice { sizes: self.sizes, start, samples: &self.samples }
     }
 
+    /// The samples that are not the fill.
+    pub fn seen(&self) -> impl Iterator<Item = i16> + '_ {
+        self.samples.iter().copied().filter(|sample| *sample != FILL)
+    }
+
+    /// The least and the greatest sample; none where there is only fill.
+    pub fn range(&self) -> Option<(i16, i16)> {
+        Some((self.seen().min()?, self.seen().max()?))
+    }
+
     /// Whether it passes tests 1 and 2.
     pub fn is_whole(&self) -> bool {
         room::fits(self.sizes) && self.samples.len() == room::samples(self.sizes)
@@ -68,6 +81,13 @@ mod tests {
         let sizes = Sizes { nx: 2, ny: 259, nz: 4 };
         assert_eq!(volume, Volume { sizes, samples: vec![-1, -32768], bytes: 10 });
         assert_eq!(volume.file(), bytes);
+    }
+
+    #[test]
+    fn what_is_seen() {
+        let of = |samples: &[i16]| Volume { samples: samples.to_vec(), ..Volume::default() }.range();
+        assert_eq!(of(&[FILL, 3, -32_767, FILL]), Some((-32_767, 3)));
+        assert_eq!((of(&[FILL]), of(&[])), (None, None));
     }
 
     #[test]

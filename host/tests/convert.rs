@@ -36,6 +36,35 @@ fn greys_of_each_type() {
 }
 
 #[test]
+fn greys_of_what_the_scanner_does_not_see() {
+    let folder = Folder::new("unseen");
+    folder.put("b.raw", &[255, 10, 99, 100, 101, 255, 254, 0]);
+    let with = |words: &str| folder.run(&format!("from-raw b.raw b.vol --sizes 2,2,2 --type u8 --level 100{words}"));
+    with(" --fill 255")
+        .told("2 2 2 samples, 3 of 8 are air, 2 are fill\n", "no cube without one of the 2 samples of fill");
+    assert_eq!(samples(&folder, "b.vol"), [i16::MIN, 90, 1, 0, -1, i16::MIN, -154, 100]);
+    with("").well("2 2 2 samples, 3 of 8 are air\n");
+    assert_eq!(samples(&folder, "b.vol")[0], -155);
+    with(" --fill 7").well("2 2 2 samples, 3 of 8 are air, 0 are fill\n");
+    with(" --fill 256").failed_with("--fill 256 is no grey of this type, which has 0 to 255");
+    with(" --fill x").failed_with("--fill takes a grey: a whole number");
+    with(" --fill").failed_with("--fill takes G");
+
+    let greys = [-32_768i16, -5, -4, 0, 7, 100, 32_766, 32_767].repeat(2);
+    folder.put("i.raw", &greys.iter().flat_map(|grey| grey.to_le_bytes()).collect::<Vec<_>>());
+    let line = "from-raw i.raw i.vol --sizes 4,2,2 --type i16 --level 5";
+    folder
+        .run(line)
+        .told("4 2 2 samples, 8 of 16 are air\n", "2 greys are -32768, as scanners fill what they do not see");
+    assert_eq!(samples(&folder, "i.vol")[0], 32_767);
+    folder.run(&format!("{line} --fill -32768")).well("4 2 2 samples, 6 of 16 are air, 2 are fill\n");
+    assert_eq!(samples(&folder, "i.vol")[..3], [i16::MIN, 10, 9]);
+    folder.put("z.raw", &[9; 8]);
+    let all = folder.run("from-raw z.raw z.vol --sizes 2,2,2 --type u8 --level 100 --fill 9");
+    all.told("2 2 2 samples, 0 of 8 are air, 8 are fill\n", "all samples are fill: no surface is at level 100");
+}
+
+#[test]
 fn a_part_of_a_larger_scan() {
     let folder = Folder::new("box");
     let greys: Vec<u8> = (0..100 * 3 * 4).map(|n| (n % 251) as u8).collect();
@@ -147,7 +176,8 @@ fn what_a_volume_holds() {
     let turned: Vec<i16> = (0..1000).map(|n| if inside(n) { 500 } else { -500 }).collect();
     hint("turned.vol", &turned, "the sign is turned");
     let filled: Vec<i16> = smooth.iter().map(|sample| if *sample < -1300 { i16::MIN } else { *sample }).collect();
-    hint("filled.vol", &filled, "are -32768");
+    hint("filled.vol", &filled, "are -32768, the scanner's fill; it is no sample");
+    hint("unseen.vol", &[i16::MIN; 1000], "hint: all samples are -32768");
     hint("zeros.vol", &smooth.iter().map(|sample| sample / 100).collect::<Vec<_>>(), "0 is solid");
     hint("solid.vol", &[-5; 1000], "no sample is air");
 
@@ -158,6 +188,17 @@ fn what_a_volume_holds() {
         assert!(run.errors.contains(words), "{}", run.errors);
     };
     let big: Vec<u8> = folder.get("good.vol").chunks_exact(2).flat_map(|pair| [pair[1], pair[0]]).collect();
+    // the fill is left out of least, greatest, shares, the rim and the steps between neighbours
+    let ringed: Vec<i16> = (0..1000).map(|n| if inside(n as i32) { smooth[n] } else { i16::MIN }).collect();
+    folder.put("ringed.vol", &volume([10, 10, 10], &ringed));
+    let run = folder.run("info ringed.vol");
+    let wanted = "sizes 10 10 10\nsamples 1000, -1082 to 1144\nair 256 (50.0 %)\nzeros 0\nfill 488 (of -32768)\n\
+                  crossed cubes 49 of 729\nsurfaces 1\nstart 4,1,1 passes through 49 cubes\n";
+    assert_eq!((run.status, run.output.as_str()), (Some(0), wanted));
+    let faces = 9 * 9 * 9 - 7 * 7 * 7;
+    assert!(run.errors.contains(&format!("the {faces} cubes that hold it are never visited")), "{run:?}");
+    assert_eq!(run.errors.lines().count(), 1);
+
     refused("big.vol", &big, 1, "read as big-endian it is a volume of 10 x 10 x 10 samples");
     refused("bare.raw", &folder.get("good.vol")[6..], 1, "10 x 10 x 10 greys of u16 or i16 without a header");
     refused("short.vol", &folder.get("good.vol")[..1000], 2, "10 x 10 x 10 asks for 1000 samples, short.vol holds 497");
@@ -185,9 +226,9 @@ fn pictures() {
     let piece = trials::tray::pieces(&case).into_iter().find(|piece| piece.name == "housing-2-pore-1").expect("a pore");
     let [x, y, z] = piece.start;
     assert_eq!(folder.run(&format!("build tray.vol pore.sheet --start {x},{y},{z}")).status, Some(0));
-    folder.run("picture pore.sheet plain.png --size 300").well("194 384\n");
+    folder.run("picture pore.sheet plain.png --size 300").well("186 368\n");
     let run = folder.run("picture pore.sheet good.png --size 300 --volume tray.vol");
-    run.well("194 384 accepted start 38,14,11 wrong 0\n");
+    run.well("186 368 accepted start 36,13,11 wrong 0\n");
     assert_eq!(folder.get("plain.png"), folder.get("good.png"));
     assert_eq!((pixels(&folder.get("plain.png")).0, red(&folder.get("plain.png"))), (300, 0));
     let sand = pixels(&folder.get("plain.png")).1.iter().filter(|[r, _, b]| *r > b.saturating_add(20)).count();
@@ -197,7 +238,7 @@ fn pictures() {
     trials::archive::sort(&mut sheet);
     folder.put("sorted.sheet", &second::serialize(&sheet));
     let run = folder.run("picture sorted.sheet sorted.png --size 300 --volume tray.vol");
-    assert!(run.output.starts_with("194 384 refused 18 0 start ") && run.output.contains(" wrong 38"), "{run:?}");
+    assert!(run.output.starts_with("186 368 refused 18 0 start ") && run.output.contains(" wrong 36"), "{run:?}");
     assert!(red(&folder.get("sorted.png")) > 5000);
     folder.run("picture sorted.sheet other.png --size 300");
     assert_eq!(red(&folder.get("other.png")), 0);

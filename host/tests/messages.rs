@@ -87,6 +87,94 @@ fn each_refusal_names_its_files_and_values() {
     );
 }
 
+/// 3x3x3, only the middle air, with fill at some samples.
+fn middle(fill: &[usize]) -> Vec<u8> {
+    let mut samples = [-4; 27];
+    samples[13] = 4;
+    fill.iter().for_each(|&n| samples[n] = i16::MIN);
+    volume([3, 3, 3], &samples)
+}
+
+#[test]
+fn refusal_5_tells_of_the_fill() {
+    let folder = Folder::new("fill");
+    let says = |line: &str, words: &[&str]| {
+        let run = folder.run(line);
+        assert_eq!((run.status, run.output.lines().next()), (Some(1), Some("refused 5")), "{run:?}");
+        for words in words.iter().chain(&["a cube with a corner of -32768, the scanner's fill, is no start"]) {
+            assert!(run.errors.contains(words), "{words}: {run:?}");
+        }
+    };
+    folder.put("one.vol", &middle(&[0]));
+    let holds = "cube 0,0,0 of one.vol holds the scanner's fill: 1 of its eight corners are -32768, which is no sample";
+    says("list one.vol --start 0,0,0", &[holds, "such a cube is never visited"]);
+    says("build one.vol one.sheet --start 0,0,0", &[holds]);
+    folder.run("build one.vol one.sheet").well("14 23 7\n");
+    folder.run("build one.vol one.sheet --start 1,1,1").well("14 23 7\n");
+    folder.run("check one.vol one.sheet --start 0,0,0").refused("refused 5 0");
+    folder.run("check one.vol one.sheet --start auto").well("accepted\nstart 1,0,0\n");
+    // a sheet of the time when the fill was solid
+    folder.put("old.vol", &middle(&[]));
+    folder.run("build old.vol old.sheet --start 0,0,0").well("14 24 8\n");
+    let mut old = second::parse(&folder.get("old.sheet")).expect("a sheet");
+    let (edge, vertex) = (6, old.records.len() as u32);
+    old.records.push([edge, 0, 0, 0]);
+    old.triangles.push([vertex, 0, 1]);
+    folder.put("old.sheet", &second::serialize(&old));
+    let run = folder.run("check one.vol old.sheet");
+    run.refused(&format!("refused 17 {vertex}"));
+    assert!(!run.errors.contains("ends at the scanner's fill"), "{run:?}");
+    old.records[vertex as usize][0] = 0;
+    folder.put("old.sheet", &second::serialize(&old));
+    let run = folder.run("check one.vol old.sheet");
+    run.refused(&format!("refused 17 {vertex}"));
+    assert!(run.errors.contains("says edge 0 at 0 0 0, and that edge ends at the scanner's fill"), "{run:?}");
+    // each of the eight cubes has one of these
+    folder.put("each.vol", &middle(&[0, 2, 6, 8, 18, 20, 24, 26]));
+    says(
+        "list each.vol",
+        &["no surface is in each.vol: its samples are -4 to 4, but no cube free of the scanner's fill is crossed: 8 samples"],
+    );
+    folder.put("solid.vol", &middle(&[13]));
+    says("list solid.vol", &["its samples are -4 to -4, all solid, beside 1 of -32768, the scanner's fill"]);
+    folder.put("air.vol", &volume([2, 2, 2], &[i16::MIN, 3, 4, 5, 6, 7, 8, i16::MIN]));
+    says("list air.vol", &["its samples are 3 to 8, all air, beside 2 of -32768, the scanner's fill"]);
+    says("list air.vol --start 0,0,0", &["2 of its eight corners are -32768"]);
+    folder.put("none.vol", &volume([2, 2, 2], &[i16::MIN; 8]));
+    says("list none.vol", &["no surface is in none.vol: all its samples are -32768, the scanner's fill"]);
+}
+
+#[test]
+fn starts_from_the_sheet_where_fill_parts_pieces() {
+    let folder = Folder::new("parted");
+    let mut samples = [-1; 18];
+    (samples[0], samples[4], samples[8]) = (i16::MIN, 1, i16::MIN);
+    folder.put("p.vol", &volume([3, 3, 2], &samples));
+    folder.run("build p.vol a.sheet").told("5 3 1\n", "the next one is built with --start 0,1,0\n");
+    folder.run("build p.vol b.sheet --start 0,1,0").told("5 3 1\n", "the next one is built with --start 1,0,0\n");
+    // both surfaces have a vertex on edge 30; where it comes first, the cubes of both are tried
+    for (name, start) in [("a.sheet", "1,0,0"), ("b.sheet", "0,1,0")] {
+        let mut sheet = second::parse(&folder.get(name)).expect("a sheet");
+        let shared = sheet.records.iter().position(|record| record[0] == 30).expect("edge 30");
+        sheet.records.swap(0, shared);
+        let other = |index: u32| match index as usize {
+            0 => shared as u32,
+            at if at == shared => 0,
+            _ => index,
+        };
+        sheet.triangles.iter_mut().for_each(|triangle| *triangle = triangle.map(other));
+        folder.put("first.sheet", &second::serialize(&sheet));
+        folder.run(&format!("check p.vol {name} --start auto")).well(&format!("accepted\nstart {start}\n"));
+        folder.run("check p.vol first.sheet --start auto").well(&format!("accepted\nstart {start}\n"));
+    }
+    folder.put("m.txt", b"p.vol a.sheet\np.vol b.sheet\np.vol b.sheet 0,0,0\n");
+    let audit = folder.run("audit m.txt");
+    assert_eq!(audit.status, Some(1));
+    assert!(audit
+        .output
+        .contains("accepted p.vol a.sheet 1,0,0\naccepted p.vol b.sheet 0,1,0\nrefused 5 0 p.vol b.sheet 0,0,0"));
+}
+
 #[test]
 fn starts_from_the_sheet() {
     let folder = Folder::new("auto");

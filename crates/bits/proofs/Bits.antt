@@ -7,7 +7,8 @@ use native.Mathlib.Nat.{mod-lt, div-one, mod-one, pow-suc, mod-eq-of-lt, mul-ass
 use native.Mathlib.Decide.{decLt}
 use lib.Arith.{mod-mul, lt-one}
 use lib.Bits.{bitAnd, bitOr, bitXor, and-shr, or-shr, xor-shr, and-mod, or-mod, xor-mod, and-mask}
-use lib.Dec.{T, eqb, eqb·zero-suc, eqb·suc-zero, eqb·suc-suc}
+use lib.Dec.{T, eqb, ltb, eqb·zero-suc, eqb·suc-zero, eqb·suc-suc}
+use borrow.Author.Tests.{lt-ltb, le-ltb}
 use lib.Pow.{pow-pos, shr-shr, shl-exact}
 use Rattle.paper.specs.Sheet.{weight}
 use Rattle.bits.specs.Words.{bit, word, lowered}
@@ -141,6 +142,14 @@ bit-lt w n x h t = go (decLt x n)
     go : Dec (x < n) → x < n
     go (yes l) = l
     go (no l) = absurd (subst T (bit-high w n x h (omega arith)) t)
+
+-- any bit of a word that is made of tests
+pub bit-inner : (f : ℕ → Bool) (n x : ℕ) → bit (word f n) x ≡ (ltb x n && f x)
+bit-inner f n x = go (decLt x n)
+  where
+    go : Dec (x < n) → bit (word f n) x ≡ (ltb x n && f x)
+    go (yes l) = bit-word f n x l ∙ ap (λ (b : Bool). b && f x) (sym (lt-ltb x n l))
+    go (no l) = bit-high (word f n) n x (word-lt f n) (omega arith) ∙ ap (λ (b : Bool). b && f x) (sym (le-ltb x n (omega arith)))
 
 -- the low n bits of a word
 pub word-bits : (w n : ℕ) → w % 2 ^ n ≡ word (bit w) n

@@ -6,15 +6,16 @@ use tally::Counts;
 ghost use mathlib.Core.Path.{_≡_};
 ghost use mathlib.Core.Bool.{true};
 ghost use Prim.Native.Nat.{_*_, _≤_, _<_};
+ghost use lib.Dec.{T};
 ghost use lib.ListN.{length};
 ghost use Rattle.lists.specs.Lists.{Beyond};
-ghost use Rattle.paper.specs.Lattice.{lattice, cubes};
+ghost use Rattle.paper.specs.Lattice.{lattice, cubes, crossed};
 ghost use Rattle.paper.specs.Room.{work, lengths, needed, neededSlots, clean};
 ghost use Rattle.paper.specs.Within.{Full, Roomy};
 ghost use Rattle.paper.specs.Tests.{judge};
 ghost use Rattle.paper.specs.Check.{sameSizes, Checks};
 ghost use Rattle.layout.specs.Laid.{LaidOut};
-ghost use Rattle.rows.specs.Rows.{HasRows};
+ghost use Rattle.rows.specs.Rows.{HasBoth};
 ghost use Rattle.spread.specs.Flooded.{Standing};
 ghost use Rattle.triples.specs.Words.{wordsBy};
 ghost use Rattle.checker.specs.Checked.{Compared, Comparable, lastTests, Accepts, Answers};
@@ -169,19 +170,20 @@ fn last_tests(
     in_any_order(samples, sizes, rows, vis, bytes, waiting, slots)
 }
 
-// Tests 17 to 19 of the sheet from cube k, on work slices that are then cleared.
+// Tests 17 to 19 of the sheet from cube k, a crossed one, on work slices that are then cleared.
 fn check_from(
     samples: &[i16],
     sizes: Sizes,
     k: usize,
     rows: &[u64],
+    may: &[u64],
     bytes: &[u8],
     words: &mut [u16],
     waiting: &mut [u32],
     slots: &mut [u32],
 ) -> Verdict
     requires { let L = lattice sizes (now samples) in
-        ⌜ Full L × HasRows L (now rows) × (k < cubes sizes) × LaidOut (now bytes) ⌝ }
+        ⌜ Full L × HasBoth L (now rows) (now may) × (k < cubes sizes) × T (crossed L k) × LaidOut (now bytes) ⌝ }
     requires { ⌜ Roomy sizes (lengths (work (now words) (now waiting) (now slots))) ⌝ }
     ensures { λ r.
         let before = work (now (words .entry)) (now (waiting .entry)) (now (slots .entry)) in
@@ -189,7 +191,7 @@ fn check_from(
         ⌜ (r ≡ judge (lastTests (lattice sizes (now (samples .entry))) k (now (bytes .entry)))) × (after ≡ clean sizes before) ⌝ }
 {
     let mut vis = [0u64; 4096];
-    spread::visit(rows, sizes, k, &mut vis[..], waiting);
+    spread::visit(rows, may, sizes, k, &mut vis[..], waiting);
     let v = last_tests(samples, sizes, rows, &vis[..], bytes, waiting, slots);
     clear::clear_work(sizes, words, waiting, slots);
     v
@@ -211,6 +213,7 @@ pub fn check(
         ⌜ Checks (lattice sizes (now (samples .entry))) start (now (bytes .entry)) before r after ⌝ }
 {
     let mut rows = [0u64; 4096];
+    let mut may = [0u64; 4096];
     let ready = ready::begin(
         samples,
         sizes,
@@ -219,6 +222,7 @@ pub fn check(
         waiting.len(),
         slots.len(),
         &mut rows[..],
+        &mut may[..],
     );
     if ready.number != 0 {
         return Verdict {
@@ -242,6 +246,7 @@ pub fn check(
         sizes,
         ready.cube,
         &rows[..],
+        &may[..],
         bytes,
         words,
         waiting,

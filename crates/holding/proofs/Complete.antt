@@ -21,8 +21,7 @@ use Rattle.paper.proofs.Listing.{edges-unique}
 use Rattle.paper.proofs.Records.{same-number, record-edge}
 use Rattle.paper.proofs.Tested.{Recorded, Listed}
 use Rattle.pairing.specs.Pairing.{arrow, around, isArrow, times}
-use Rattle.pairing.proofs.Names.{few-times}
-use Rattle.pairing.proofs.Sheets.{by-edge}
+use Rattle.pairing.proofs.Sheets.{few-by-edge}
 use Rattle.pairing.proofs.Turned.{is-turned, turned-is, back, along, hit, hit-turned}
 
 module _ (L : Lattice) (start : ℕ) (vs : List ℤ) (nv : ℕ) (good : (i : ℕ) → i < nv → Recorded (vertexRecord L) (sheetOf L start) vs i) where
@@ -66,7 +65,7 @@ module _ (L : Lattice) (s : Sized (L .size)) (start : ℕ) (h : start < cubes (L
         arith,
         count-le-sum (λ u. turned u t) (hit a b) us (λ u q. omega (arith, own-hit t, hit-turned a b (is-turned u t q))),
         count-each (isArrow a b) around us,
-        few-times (by-edge L s start h) a b,
+        few-by-edge L s start h a b,
       )
 
 module _ (L : Lattice) (s : Sized (L .size)) (start : ℕ) (h : start < cubes (L .size)) (vs : List ℤ) (ts : List ℕ) (nt : ℕ)

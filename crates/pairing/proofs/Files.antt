@@ -1,5 +1,6 @@
 -- Demand 3 of a file that is accepted, by its own records and triangles. Assumes nothing.
 use mathlib.Core.Path.{_≡_, sym, ap, _∙_, subst}
+use mathlib.Core.Bool.{Bool}
 use mathlib.Core.List.{List, map, List·Memᴰ as In, Memᴰ·cast, Memᴰ·map as in-map, map-map}
 use Prim.Native.Nat.{ℕ, _+_, _*_, _<_}
 use native.Mathlib.Omega.{arith}
@@ -21,11 +22,10 @@ use Rattle.paper.proofs.Tested.{Recorded}
 use Rattle.paper.proofs.Passing.{Accepted}
 use Rattle.paper.specs.Within.{Below}
 use Rattle.paper.proofs.Listing.{named}
-use Rattle.pairing.specs.Pairing.{apart, Paired, OneVertex, Demand3, fileEdges, fileCorner, fileCorners}
+use Rattle.pairing.specs.Pairing.{Paired, OneVertex, Demand3By, fileEdges, fileCorner, fileCorners}
 use Rattle.lists.proofs.Within.{members, list-in, in-list, member-any, any-member, below, in-run, map-in}
 use Rattle.lists.proofs.Counts.{pick, along-unique, range-unique, count-unique, Unique}
 use Rattle.pairing.proofs.Names.{few-times, paired-same, by-number, times-below}
-use Rattle.pairing.proofs.Sheets.{by-edge}
 use Rattle.pairing.proofs.Vertices.{one-vertex}
 use Rattle.pairing.proofs.Turned.{Turned, is-turned, turned-is, same-times}
 
@@ -84,11 +84,10 @@ module _ (L : Lattice) (s : Start) (bs : List ℕ) (acc : Accepted L s bs) where
 
   -- ── triangles ──
 
-  sheet-paired : Paired (apart L) (S .byEdge)
-  sheet-paired = by-edge L (acc .started .sizes) start (acc .started .start)
-
-  file-paired : Paired (apart L) (map (triangleOf vs ts) (range 0 (fileT bs)))
-  file-paired = paired-same (same-times (triangleOf vs ts) (range 0 (fileT bs)) (range-unique 0 (fileT bs)) (S .byEdge) (few-times sheet-paired) sound full new) sheet-paired
+  file-paired : {apart : ℕ → ℕ → Bool} → Paired apart (S .byEdge) → Paired apart (map (triangleOf vs ts) (range 0 (fileT bs)))
+  file-paired p =
+      paired-same
+      (same-times (triangleOf vs ts) (range 0 (fileT bs)) (range-unique 0 (fileT bs)) (S .byEdge) (few-times p) sound full new) p
     where
       sound : (i : ℕ) → In i (range 0 (fileT bs)) → (u : Tri) × In u (S .byEdge) × Turned (triangleOf vs ts i) u
       sound i j =
@@ -149,9 +148,10 @@ module _ (L : Lattice) (s : Start) (bs : List ℕ) (acc : Accepted L s bs) where
       let c = name-is (getD ts (3 * i + 2) 0) (corner-lt i 2 h (omega arith)) in
       λ j. tri (a j) (b j) (c j)))
 
-  pub demand : Demand3 L start (fileEdges bs) (fileCorners bs)
-  demand = record {
+  -- where the sheet's directed edges pair up by lattice edges
+  pub demand : (apart : ℕ → ℕ → Bool) → Paired apart (S .byEdge) → Demand3By apart L start (fileEdges bs) (fileCorners bs)
+  demand apart p = record {
     vertices = vertices;
     numbers = times-below (fileEdges bs) distinct (fileCorners bs) corners-below;
-    pairs = by-number (fileEdges bs) distinct (fileCorners bs) corners-below (subst (Paired (apart L)) (sym named-are) file-paired);
+    pairs = by-number (fileEdges bs) distinct (fileCorners bs) corners-below (subst (Paired apart) (sym named-are) (file-paired p));
   }

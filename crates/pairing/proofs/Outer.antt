@@ -17,8 +17,7 @@ use Rattle.paper.specs.Lattice.{place, corner, inLattice}
 use Rattle.paper.specs.Within.{CubeIn}
 use Rattle.paper.specs.Sheet.{anchorOf, kindIn, endsOf, firstEnd, secondEnd}
 use Rattle.paper.proofs.Visits.{in-lattice, lattice-in}
-use Rattle.pairing.specs.Pairing.{edgeEnds, inOuterFace, outer}
-use Rattle.pairing.specs.Visitable.{meet, shared, inUnshared, unshared}
+use Rattle.pairing.specs.Visitable.{edgeEnds, inOuterFace, outer, meet, shared, inUnshared, unshared}
 use Rattle.lists.proofs.Within.{T→false, eqb-of, any-member, all-in, in-all-test, all-map}
 use Rattle.pairing.proofs.Table.{span, flat, flatX, flatY, flatZ}
 use Rattle.pairing.proofs.Edges.{number, Edge, kind-of, anchor-of}

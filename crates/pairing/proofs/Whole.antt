@@ -59,13 +59,13 @@ pub off : (o : ℕ) (d p : Place) → corner d o ≡ p → (d .x + o % 2 ≡ p .
 unfolding corner
 off o d p e = (ap (λ (r : Place). r .x) e, ap (λ (r : Place). r .y) e, ap (λ (r : Place). r .z) e)
 
-same-place : (p q : Place) → T (samePlace p q) → p ≡ q
+pub same-place : (p q : Place) → T (samePlace p q) → p ≡ q
 unfolding samePlace
 same-place p q t =
     let e = same3 (p .x) (p .y) (p .z) (q .x) (q .y) (q .z) t in
     at-place p (q .x) (q .y) (q .z) (e .0) (e .1) (e .2)
 
-place-same : {p q : Place} → p ≡ q → T (samePlace p q)
+pub place-same : {p q : Place} → p ≡ q → T (samePlace p q)
 unfolding samePlace
 place-same {p} {q} e =
     of-same3 (ap (λ (r : Place). r .x) e) (ap (λ (r : Place). r .y) e) (ap (λ (r : Place). r .z) e)

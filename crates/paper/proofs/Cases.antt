@@ -5,7 +5,7 @@ use mathlib.Core.List.{List, [], _∷_, _++_, map}
 use Prim.Native.Nat.{ℕ, _+_, _-_, _*_, _/_}
 use lib.IntN.{ℤ, pos, negsuc, natAbs}
 use lib.Dec.{eqb}
-use lib.ListN.{length, getD, replicate}
+use lib.ListN.{length, getD, set, replicate}
 use Rattle.lists.specs.Lists.{range, keep}
 use Rattle.lists.specs.Bytes.{signed, field}
 use Rattle.lists.specs.Reach.{grow, rounds, reached}
@@ -16,7 +16,7 @@ use Rattle.paper.specs.declared.Built.{Built}
 use Rattle.paper.specs.declared.Verdict.{Verdict}
 use Rattle.paper.specs.declared.Wrote.{Wrote}
 use Rattle.paper.specs.declared.Got.{Got}
-use Rattle.paper.specs.Lattice.{Lattice, lattice, place, axis, axes, samples, air, sampleNo, sampleAt, valueAt, airAt, cubes, cubeNo, cubeAt, corner, mixed, mixedAt, inLattice, visitable, crossed, faces, stepOver, steps, visited, lowest}
+use Rattle.paper.specs.Lattice.{Lattice, lattice, place, axis, axes, samples, air, sampleNo, sampleAt, valueAt, airAt, cubes, cubeNo, cubeAt, corner, mixed, mixedAt, fill, isFill, fillAt, inLattice, free, visitable, crossed, faces, stepOver, steps, visited, lowest}
 use Rattle.paper.specs.Tables.{tets, rows, tetEdges, kinds, low, joins, kindOf}
 use Rattle.paper.specs.Sheet.{Sheet, edgeNo, anchorOf, endsOf, firstEnd, secondEnd, split, cubeEdges, vertexEdges, crossing, coordinate, recordAt, vertexRecord, weight, rowOf, rowAt, tetEdge, triEdges, trianglesAt, cubeTriangles, numbered, sheetBy, sheetOf, vertexWords, triangleWords}
 use Rattle.paper.specs.Room.{Work, work, Lengths, lengths, roomy, roomTests, frontAfter, outputAfter}
@@ -129,7 +129,7 @@ fourth : ℕ → ℕ
 fourth n = n / 4
 
 unfoldable pub outcome : Case → List ℕ
-unfolding third fourth grow rounds reached axis axes samples air sampleNo sampleAt valueAt airAt cubes cubeNo cubeAt corner mixed mixedAt inLattice visitable crossed faces stepOver steps visited lowest tets rows tetEdges kinds low joins kindOf edgeNo anchorOf endsOf firstEnd secondEnd split cubeEdges vertexEdges crossing coordinate recordAt vertexRecord rowOf rowAt tetEdge triEdges trianglesAt cubeTriangles numbered sheetBy sheetOf vertexWords triangleWords xor roomy shapeTests startTests sampleTests roomTests buildNumber built frontAfter outputAfter lentAfter field bits32 signed fileLength trailerBytes fileBytes badTriangle firstBad limits writeVerdict wrote trailer fileV fileT fileSizes fileVertices fileTriangles laidOut fileTests readVerdict got sameSizes sameTriangle turned recordOf edgeOf badRecord cornerOf triangleOf badNaming complete sheetTests checked checkedAfter
+unfolding third fourth grow rounds reached axis axes samples air sampleNo sampleAt valueAt airAt cubes cubeNo cubeAt corner mixed mixedAt isFill fillAt inLattice free visitable crossed faces stepOver steps visited lowest tets rows tetEdges kinds low joins kindOf edgeNo anchorOf endsOf firstEnd secondEnd split cubeEdges vertexEdges crossing coordinate recordAt vertexRecord rowOf rowAt tetEdge triEdges trianglesAt cubeTriangles numbered sheetBy sheetOf vertexWords triangleWords xor roomy shapeTests startTests sampleTests roomTests buildNumber built frontAfter outputAfter lentAfter field bits32 signed fileLength trailerBytes fileBytes badTriangle firstBad limits writeVerdict wrote trailer fileV fileT fileSizes fileVertices fileTriangles laidOut fileTests readVerdict got sameSizes sameTriangle turned recordOf edgeOf badRecord cornerOf triangleOf badNaming complete sheetTests checked checkedAfter
 outcome (builds nv nt L s) = answer (built L s (room nv nt))
 outcome (lists L s) = listed (sheetOf L (startOf L s))
 outcome (files L) = let S = sheetOf L (startOf L Unnamed) in filed (file L S (length (S .triangles)) (triangleWords S))
@@ -203,6 +203,22 @@ split-air = lat 2 2 2 (a ∷ a ∷ o ∷ a ∷ a ∷ o ∷ o ∷ a ∷ [])
 -- only (2, 0, 0), (0, 3, 1) and (2, 3, 2) air, in three pieces; (1, 3, 1) is −3
 abbrev pub uneven : Lattice
 uneven = lat 3 4 3 (o ∷ o ∷ a ∷ replicate 18 o ++ a ∷ negsuc 2 ∷ replicate 12 o ++ a ∷ [])
+
+-- the fill
+abbrev pub f : ℤ
+f = fill
+
+-- only (1, 1, 1) air, (0, 0, 0) fill
+abbrev pub corner-fill : Lattice
+corner-fill = lat 3 3 3 (f ∷ replicate 12 o ++ a ∷ replicate 13 o)
+
+-- only (1, 1, 0) air, (0, 0, 0) and (2, 2, 0) fill: the cubes (1, 0, 0) and (0, 1, 0) share an edge and no face
+abbrev pub parted : Lattice
+parted = lat 3 3 2 (f ∷ o ∷ o ∷ o ∷ a ∷ o ∷ o ∷ o ∷ f ∷ replicate 9 o)
+
+-- a cube with the fill at one corner and air at another
+abbrev pub filled : ℕ → ℕ → Lattice
+filled i j = lat 2 2 2 (set (set (replicate 8 o) i f) j a)
 
 -- slices of these lengths, full of 5, 6 and 7; and with output full of 9 and 8
 abbrev pub full : ℕ → ℕ → ℕ → Work

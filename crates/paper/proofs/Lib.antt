@@ -16,4 +16,6 @@ pub mod Steps
 pub mod Judged
 pub mod Tested
 pub mod Passing
+pub mod Fill
+pub mod Parted
 pub mod Agreement

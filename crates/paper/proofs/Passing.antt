@@ -5,16 +5,17 @@ use mathlib.Core.Bool.{Bool, true, false, cond}
 use mathlib.Core.List.{List, _++_}
 use Prim.Native.Nat.{ℕ, _≤_, _<_}
 use native.Mathlib.Omega.{arith}
-use lib.Dec.{ltb→lt}
+use lib.Dec.{T, ltb→lt}
 use lib.ListN.{length}
 use borrow.Author.Tests.{leb-true, le-leb}
 use Rattle.lists.specs.Lists.{range, first, cleared}
 use Rattle.lists.proofs.Member.{eq→T}
 use Rattle.lists.proofs.Runs.{any-first}
+use Rattle.lists.proofs.Firsts.{first-holds}
 use Rattle.paper.specs.declared.Start.{Start}
 use Rattle.paper.specs.declared.Start.the-variants.{Unnamed, Cube}
 use Rattle.paper.specs.declared.Sizes.{Sizes}
-use Rattle.paper.specs.Lattice.{Lattice, cubes, lowest, mayStart}
+use Rattle.paper.specs.Lattice.{Lattice, cubes, crossed, lowest, mayStart}
 use Rattle.paper.specs.Sheet.{Sheet, vertexRecord, sheetOf}
 use Rattle.paper.specs.Within.{Sized}
 use Rattle.paper.specs.Tests.{Test, verdict, judge}
@@ -30,10 +31,11 @@ use Rattle.paper.proofs.Judged.{Numbered, Passed, numbered-both, passed
 
 -- ── 1 to 5 ──
 
--- the sizes, and a start in the lattice
+-- the sizes, and a start in the lattice that is crossed
 pub record Started (L : Lattice) (s : Start) : Type 0 where
   pub sizes : Sized (L .size)
   pub start : startOf L s < cubes (L .size)
+  pub crosses : T (crossed L (startOf L s))
 
 starting : (L : Lattice) (s : Start) → named (L .size) s ≡ true → starts L s ≡ true → startOf L s < cubes (L .size)
 unfolding lowest
@@ -41,6 +43,11 @@ starting L Unnamed t h =
     let n = cubes (L .size) in
     ltb→lt (first (mayStart L) n (range 0 n)) n (eq→T (sym (any-first (mayStart L) n) ∙ h))
 starting L (Cube p) t h = cube-lt (L .size) p (in-lattice (L .size) p (eq→T t))
+
+crossing : (L : Lattice) (s : Start) → named (L .size) s ≡ true → starts L s ≡ true → T (crossed L (startOf L s))
+unfolding lowest
+crossing L Unnamed t h = let n = cubes (L .size) in eq→T (first-holds (mayStart L) n 0 n (starting L Unnamed t h))
+crossing L (Cube p) t h = eq→T h
 
 pub shape-numbered : (L : Lattice) (m : Lengths) → Numbered (shapeTests L m)
 unfolding shapeTests
@@ -53,7 +60,10 @@ module _ (L : Lattice) (s : Start) (m : Lengths) where
 
   pub sample-passed : Passed (sampleTests L s m) → Started L s
   unfolding sampleTests shapeTests startTests
-  sample-passed p = record { sizes = sized (L .size) (p .0); start = starting L s (p .1 .1 .1 .0) (p .1 .1 .1 .1 .0) }
+  sample-passed p =
+      let n = p .1 .1 .1 .0 in
+      let k = p .1 .1 .1 .1 .0 in
+      record { sizes = sized (L .size) (p .0); start = starting L s n k; crosses = crossing L s n k }
 
   pub sample-tests : judge (sampleTests L s m) .number ≡ 0 → Started L s
   sample-tests z = sample-passed (judge-all (sampleTests L s m) sample-numbered z)

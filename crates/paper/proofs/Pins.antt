@@ -6,7 +6,7 @@ use lib.IntN.{pos, negsuc}
 use lib.ListN.{set, replicate, take, drop}
 use Rattle.paper.specs.declared.Start.the-variants.{Unnamed}
 use Rattle.paper.specs.File.{contentOf}
-use Rattle.paper.proofs.Cases.{Case, builds, lists, files, checks, checksFile, checksBytes, checksFrom, checkLeaves, checkFileLeaves, leaves, clears, limited, writes, writeLeaves, bytes, reads, readsFile, readLeaves, signs, rereads, Row, row-of, outcome, sizes, lat, at, works, numbers, o, a, first-air, rtn-air, middle-air, two-air, zero-solid, steep, far-air, five-air, split-air, uneven, full, clear-front, used, three-records, small-record, small-file}
+use Rattle.paper.proofs.Cases.{Case, builds, lists, files, checks, checksFile, checksBytes, checksFrom, checkLeaves, checkFileLeaves, leaves, clears, limited, writes, writeLeaves, bytes, reads, readsFile, readLeaves, signs, rereads, Row, row-of, outcome, sizes, lat, at, works, numbers, o, a, first-air, rtn-air, middle-air, two-air, zero-solid, steep, far-air, five-air, split-air, uneven, corner-fill, parted, filled, full, clear-front, used, three-records, small-record, small-file}
 
 table : List Row
 table =
@@ -29,6 +29,24 @@ table =
     ∷ row-of (builds 100 100 (lat 3 2 2 (a ∷ o ∷ a ∷ replicate 9 o)) Unnamed) (0 ∷ 3 ∷ 1 ∷ 1 ∷ [])
     ∷ row-of (builds 100 100 (lat 3 2 2 (o ∷ a ∷ o ∷ o ∷ a ∷ o ∷ o ∷ a ∷ o ∷ o ∷ a ∷ o ∷ [])) Unnamed) (0 ∷ 9 ∷ 8 ∷ 1 ∷ [])
     ∷ row-of (builds 100 100 (lat 2 2 2 (replicate 8 a)) Unnamed) (5 ∷ 0 ∷ 0 ∷ 0 ∷ [])
+    -- document 02 (iii): a start that holds the fill, starts beside it, and two pieces that fill parts
+    ∷ row-of (builds 100 100 corner-fill (at 0 0 0)) (5 ∷ 0 ∷ 0 ∷ 0 ∷ [])
+    ∷ row-of (builds 100 100 corner-fill (at 1 0 0)) (0 ∷ 14 ∷ 23 ∷ 7 ∷ [])
+    ∷ row-of (builds 100 100 corner-fill Unnamed) (0 ∷ 14 ∷ 23 ∷ 7 ∷ [])
+    ∷ row-of (builds 100 100 parted (at 1 0 0)) (0 ∷ 5 ∷ 3 ∷ 1 ∷ [])
+    ∷ row-of (builds 100 100 parted (at 0 1 0)) (0 ∷ 5 ∷ 3 ∷ 1 ∷ [])
+    ∷ row-of (lists parted (at 1 0 0)) (8 ∷ 65536 ∷ 32768 ∷ 0 ∷ 10 ∷ 65536 ∷ 32768 ∷ 32768 ∷ 12 ∷ 98304 ∷ 32768 ∷ 0 ∷ 28 ∷ 98304 ∷ 65536 ∷ 0 ∷ 30 ∷ 65536 ∷ 65536 ∷ 32768 ∷ 0 ∷ 2 ∷ 1 ∷ 3 ∷ 1 ∷ 2 ∷ 3 ∷ 4 ∷ 1 ∷ [])
+    ∷ row-of (lists parted (at 0 1 0)) (21 ∷ 32768 ∷ 65536 ∷ 0 ∷ 25 ∷ 32768 ∷ 65536 ∷ 32768 ∷ 26 ∷ 32768 ∷ 98304 ∷ 0 ∷ 29 ∷ 65536 ∷ 98304 ∷ 0 ∷ 30 ∷ 65536 ∷ 65536 ∷ 32768 ∷ 0 ∷ 1 ∷ 2 ∷ 2 ∷ 1 ∷ 3 ∷ 3 ∷ 1 ∷ 4 ∷ [])
+    -- the fill at each corner of a cube; −32767 is none
+    ∷ row-of (builds 9 9 (filled 0 7) Unnamed) (5 ∷ 0 ∷ 0 ∷ 0 ∷ [])
+    ∷ row-of (builds 9 9 (filled 1 7) Unnamed) (5 ∷ 0 ∷ 0 ∷ 0 ∷ [])
+    ∷ row-of (builds 9 9 (filled 2 7) Unnamed) (5 ∷ 0 ∷ 0 ∷ 0 ∷ [])
+    ∷ row-of (builds 9 9 (filled 3 7) Unnamed) (5 ∷ 0 ∷ 0 ∷ 0 ∷ [])
+    ∷ row-of (builds 9 9 (filled 4 7) Unnamed) (5 ∷ 0 ∷ 0 ∷ 0 ∷ [])
+    ∷ row-of (builds 9 9 (filled 5 7) Unnamed) (5 ∷ 0 ∷ 0 ∷ 0 ∷ [])
+    ∷ row-of (builds 9 9 (filled 6 7) Unnamed) (5 ∷ 0 ∷ 0 ∷ 0 ∷ [])
+    ∷ row-of (builds 9 9 (filled 7 0) Unnamed) (5 ∷ 0 ∷ 0 ∷ 0 ∷ [])
+    ∷ row-of (builds 9 9 (lat 2 2 2 (a ∷ replicate 7 (negsuc 32766))) Unnamed) (0 ∷ 3 ∷ 1 ∷ 1 ∷ [])
     -- room to the last vertex and triangle, and 6 before 7
     ∷ row-of (builds 14 24 middle-air Unnamed) (0 ∷ 14 ∷ 24 ∷ 8 ∷ [])
     ∷ row-of (builds 13 23 middle-air Unnamed) (6 ∷ 14 ∷ 24 ∷ 8 ∷ [])
@@ -51,6 +69,7 @@ table =
     ∷ row-of (leaves first-air (at 1 0 0) (used 12 3 1 0 56)) (3 ∷ numbers (used 12 3 1 0 56))
     ∷ row-of (leaves first-air (at 1 0 0) (used 12 3 1 1 55)) (3 ∷ numbers (used 12 3 1 1 55))
     ∷ row-of (leaves first-air (at 1 0 0) (used 12 3 1 1 56)) (4 ∷ numbers (used 12 3 1 1 56))
+    ∷ row-of (leaves (filled 1 7) (at 0 0 0) (used 12 3 1 1 56)) (5 ∷ numbers (used 12 3 1 1 56))
     ∷ row-of clears (0 ∷ 6 ∷ 7 ∷ 17 ∷ 18 ∷ 19 ∷ [])
     -- writing
     ∷ row-of (writes (sizes 64 64 64) 3 1 (replicate 12 (pos 0)) (1 ∷ 2 ∷ 0 ∷ []) 84) (0 ∷ 0 ∷ 84 ∷ [])
@@ -119,6 +138,9 @@ table =
     ∷ row-of (checksFrom two-air (at 3 0 0) (at 0 0 0)) (17 ∷ 0 ∷ [])
     ∷ row-of (checksFrom two-air (at 1 0 0) (at 0 0 0)) (5 ∷ 0 ∷ [])
     ∷ row-of (checksFrom two-air (at 4 0 0) (at 0 0 0)) (4 ∷ 0 ∷ [])
+    ∷ row-of (checksFrom corner-fill (at 1 0 0) Unnamed) (0 ∷ 0 ∷ [])
+    ∷ row-of (checksFrom corner-fill (at 0 0 0) (at 1 0 0)) (5 ∷ 0 ∷ [])
+    ∷ row-of (checksFrom parted (at 1 0 0) (at 0 1 0)) (17 ∷ 0 ∷ [])
     -- what a check leaves: work room as it was before 17, and cleared from there on
     ∷ row-of (checkLeaves first-air (drop 29 small-file) (full 2 2 57)) (11 ∷ works (full 2 2 57))
     ∷ row-of (checkLeaves first-air small-file (full 2 2 57)) (16 ∷ works (full 2 2 57))

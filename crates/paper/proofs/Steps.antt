@@ -13,8 +13,8 @@ use Rattle.lists.proofs.Every.{any-at, at-any}
 use Rattle.paper.specs.declared.Place.{Place}
 use Rattle.paper.specs.Lattice.{Lattice, Face, place, face, airAt, cubes, cubeNo, cubeAt, corner, mixed, mixedAt, visitable, faces, faceAt, stepOver, steps}
 use Rattle.paper.specs.Within.{Sized}
-use Rattle.paper.proofs.Numbers.{cube-inside, cube-back, cube-place}
-use Rattle.paper.proofs.Visits.{visitable-in, in-visitable}
+use Rattle.paper.proofs.Numbers.{cube-back, cube-place}
+use Rattle.paper.proofs.Visits.{visitable-in}
 
 -- the other end of the same axis
 abbrev pub opposite : ℕ → ℕ
@@ -92,10 +92,11 @@ six : (p : Place) → length (faces p) ≡ 6
 unfolding faces
 six p = refl
 
--- a step leads back to the cube that it came from
-pub step-back : (L : Lattice) → Sized (L .size) → (j k : ℕ) → j < cubes (L .size) → T (isIn (steps L j) k) → T (isIn (steps L k) j)
+-- a step leads back to the cube that it came from, where that may be visited
+pub step-back : (L : Lattice) → Sized (L .size) → (j k : ℕ) → j < cubes (L .size) → T (visitable L (cubeAt (L .size) j))
+    → T (isIn (steps L j) k) → T (isIn (steps L k) j)
 unfolding steps stepOver faceAt
-step-back L s j k hj t =
+step-back L s j k hj v t =
     let z = L .size in
     let p = cubeAt z j in
     let w = any-at (λ f. isIn (stepOver L p f) k) (faces p) (face [] false p) (subst T (any-each (eqb k) (stepOver L p) (faces p)) t) in
@@ -111,7 +112,7 @@ step-back L s j k hj t =
     let place-k : cubeAt z k ≡ b = ap (cubeAt z) (e .1) ∙ cube-place z b (omega (arith, hb)) (omega (arith, hb)) in
     let same : mixedAt L b (g .corners) ≡ mixedAt L p (f .corners) =
     mixed-samples L b (g .corners) ∙ (ap (λ (l : List Place). mixed (map (airAt L) l)) (r .samples) ∙ sym (mixed-samples L p (f .corners))) in
-    let inside : T (visitable L (g .beyond)) = subst (λ (q : Place). T (visitable L q)) (sym (r .back)) (in-visitable L p (cube-inside z s j hj)) in
+    let inside : T (visitable L (g .beyond)) = subst (λ (q : Place). T (visitable L q)) (sym (r .back)) v in
     let number : cubeNo z (g .beyond) ≡ j = ap (cubeNo z) (r .back) ∙ cube-back z s j hj in
     let open-way : T (g .there && visitable L (g .beyond) && mixedAt L b (g .corners)) =
     both3 (g .there) (visitable L (g .beyond)) (mixedAt L b (g .corners)) (r .there) inside (subst T (sym same) (m .2)) in

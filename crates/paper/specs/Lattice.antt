@@ -1,13 +1,14 @@
--- Document 01, "Lattice, sides, numbers". Assumes nothing.
+-- Document 01, "Lattice, sides, numbers", and document 02 (iii), "−32768 is no sample". Assumes nothing.
+use mathlib.Core.Path.{_≡_, refl}
 use mathlib.Core.Bool.{Bool, true, false, not, _&&_}
-use mathlib.Core.List.{List, [], _∷_, map}
+use mathlib.Core.List.{List, [], _∷_, _++_, map}
 use Prim.Native.Nat.{ℕ, _+_, _-_, _*_, _/_, _%_}
-use lib.IntN.{ℤ, pos}
-use lib.Dec.{ltb, leb}
+use lib.IntN.{ℤ, pos, negsuc}
+use lib.Dec.{eqb, ltb, leb}
 use lib.Signed.{ltZ}
-use lib.ListN.{getD}
-use Rattle.lists.specs.Lists.{range, consIf, any, all, each, first}
-use Rattle.lists.specs.Reach.{Reach, reached}
+use lib.ListN.{getD, set, replicate}
+use Rattle.lists.specs.Lists.{range, consIf, keep, any, all, each, first}
+use Rattle.lists.specs.Reach.{Reach, grow, rounds, reached}
 use Rattle.paper.specs.declared.Sizes.{Sizes}
 use Rattle.paper.specs.declared.Place.{Place}
 
@@ -51,6 +52,21 @@ valueAt L p = getD (L .values) (sampleNo (L .size) p) (pos 0)
 
 unfoldable pub airAt : Lattice → Place → Bool
 airAt L p = air (valueAt L p)
+
+-- document 02 (iii): "The scanner fills the ring outside its field of view with −32768.": the fill, and whether a value is it
+abbrev pub fill : ℤ
+fill = negsuc 32767
+
+unfoldable pub isFill : ℤ → Bool
+isFill (pos n) = false
+isFill (negsuc n) = eqb n 32767
+
+unfoldable pub fillAt : Lattice → Place → Bool
+fillAt L p = isFill (valueAt L p)
+
+-- no sample of the lattice is the fill
+unfoldable pub noFill : Lattice → Bool
+noFill L = not (any isFill (L .values))
 
 -- a cube spans two samples on each axis
 unfoldable pub cubes : Sizes → ℕ
@@ -104,11 +120,15 @@ mixedAt L p cs = mixed (map (λ c. airAt L (corner p c)) cs)
 unfoldable pub inLattice : Sizes → Place → Bool
 inLattice z p = ltb (p .x + 1) (z .nx) && ltb (p .y + 1) (z .ny) && ltb (p .z + 1) (z .nz)
 
--- the cubes that may be visited: all of the lattice
-unfoldable pub visitable : Lattice → Place → Bool
-visitable L p = inLattice (L .size) p
+-- document 02 (iii), "free of the fill": none of the eight corners of the cube at p is the fill
+unfoldable pub free : Lattice → Place → Bool
+free L p = not (any (λ c. fillAt L (corner p c)) (range 0 8))
 
--- "A cube is crossed if its eight corners are not all on one side."
+-- the cubes that may be visited: those of the lattice, and of document 02 (iii), "visitable means free of the fill"
+unfoldable pub visitable : Lattice → Place → Bool
+visitable L p = inLattice (L .size) p && free L p
+
+-- "A cube is crossed if its eight corners are not all on one side."; "a cube with such a corner counts as not crossed" (02 (iii))
 unfoldable pub crossed : Lattice → ℕ → Bool
 crossed L k = let p = cubeAt (L .size) k in visitable L p && mixedAt L p (range 0 8)
 
@@ -136,7 +156,8 @@ faces p =
 unfoldable pub faceAt : Place → ℕ → Face
 faceAt p i = getD (faces p) i (face [] false p)
 
--- "steps into a neighbour across a shared face whose four corners are not all on one side"
+-- "steps into a neighbour across a shared face whose four corners are not all on one side"; a cube with a corner that is the fill "is never
+-- visited" (02 (iii))
 unfoldable pub stepOver : Lattice → Place → Face → List ℕ
 stepOver L p f =
     consIf (f .there && visitable L (f .beyond) && mixedAt L p (f .corners)) (cubeNo (L .size) (f .beyond)) []
@@ -159,3 +180,17 @@ lowest z p = first p (cubes z) (range 0 (cubes z))
 -- "If the caller names no start, the start is the crossed cube of lowest number": the cubes that may then be the start
 abbrev pub mayStart : Lattice → ℕ → Bool
 mayStart L k = crossed L k
+
+-- ── worked, of document 02 (iii) ──
+
+-- 3×3×3, only (1, 1, 1) air and the fill at (0, 0, 0): its crossed cubes, and those visited from the cube at (1, 0, 0). Then the corners of
+-- a cube at which the fill leaves it visitable, and those at which −32767 does
+worked :
+    let o : ℤ = negsuc 0 in
+    let ring : Lattice = lattice (record { nx = 3; ny = 3; nz = 3 }) (fill ∷ replicate 12 o ++ pos 1 ∷ replicate 13 o) in
+    let left : ℤ → List ℕ =
+    λ v. keep (λ c. visitable (lattice (record { nx = 2; ny = 2; nz = 2 }) (set (replicate 8 o) c v)) (place 0 0 0)) (range 0 8) in
+    (keep (crossed ring) (range 0 8) ∷ visited ring 1 ∷ left fill ∷ left (negsuc 32766) ∷ [])
+    ≡ (range 1 7 ∷ range 1 7 ∷ [] ∷ range 0 8 ∷ [])
+unfolding grow rounds reached air sampleNo valueAt airAt isFill fillAt cubes cubeNo cubeAt corner mixed mixedAt inLattice free visitable crossed faces stepOver steps visited
+worked = refl

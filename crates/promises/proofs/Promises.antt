@@ -1,37 +1,46 @@
 -- What is promised. The contracts of the entry points are `Builds`, `Writes`, `Reads` and `Checks` (paper/specs): each function is proved to
 -- meet its own, to be safe and to end, whatever it is given. Here stand the three demands and the round trips that follow from these
 -- contracts; each body is the theorem. What has to be believed are the definitions that the statements name. Assumes nothing.
-use mathlib.Core.Path.{_≡_}
+use mathlib.Core.Path.{_≡_, ap, _∙_}
 use mathlib.Core.List.{List}
-use mathlib.Core.Bool.{true}
+use mathlib.Core.Bool.{true, false}
 use Prim.Native.Nat.{ℕ, _+_, _*_, _<_, _≤_}
 use lib.IntN.{ℤ}
+use lib.Dec.{T}
 use lib.ListN.{length, getD, take}
 use lib.Ieee.{binary32, ofBits, toBits}
-use Rattle.lists.specs.Lists.{range, each, over}
+use Rattle.lists.specs.Lists.{range, each, over, isIn}
 use Rattle.paper.specs.declared.Sizes.{Sizes}
+use Rattle.paper.specs.declared.Place.{Place}
 use Rattle.paper.specs.declared.Start.{Start}
+use Rattle.paper.specs.declared.Start.the-variants.{Cube}
 use Rattle.paper.specs.declared.Built.{Built}
 use Rattle.paper.specs.declared.Wrote.{Wrote}
 use Rattle.paper.specs.declared.Got.{Got}
 use Rattle.paper.specs.declared.Verdict.{Verdict}
-use Rattle.paper.specs.Lattice.{Lattice}
+use Rattle.paper.specs.Lattice.{Lattice, fillAt, noFill, cubeAt, corner, visited}
+use Rattle.paper.specs.Within.{CubeIn}
 use Rattle.paper.specs.Sheet.{sheetOf, vertexWords, triangleWords}
 use Rattle.paper.specs.Tests.{judge, verdict}
-use Rattle.paper.specs.Room.{Work, Lengths, vertexRoom, triangleRoom}
-use Rattle.paper.specs.Build.{Lent, startOf, sampleTests, Builds}
+use Rattle.paper.specs.Room.{Work, Lengths, lengths, vertexRoom, triangleRoom}
+use Rattle.paper.specs.Build.{Lent, startOf, shapeTests, sampleTests, Builds}
 use Rattle.paper.specs.File.{fileWords, fileIndices, Writes, Reads}
 use Rattle.paper.specs.Check.{checked, Checks}
 use Rattle.codec.specs.Words.{Words, Bytes}
 use Rattle.sheetfile.specs.Trips.{Returned}
 use Rattle.acceptance.specs.Holding.{Acceptable, Exactly, EachOnce}
-use Rattle.pairing.specs.Pairing.{Demand3, fileEdges, fileCorners}
+use Rattle.pairing.specs.Pairing.{Demand3, Demand3By, fileEdges, fileCorners}
+use Rattle.pairing.specs.Visitable.{outer}
 use Rattle.facets.specs.Steps.{floatOf, isImage}
 use Rattle.stl.specs.declared.Loaded.{Loaded}
 use Rattle.stl.specs.Stl.{nineOf, StlWrites, stlFacet, StlReads}
 use Rattle.stl.proofs.Promises.{Exactly as CornerOf, Returned as StlReturned}
 use Rattle.stl.proofs.Promises as stl
 use Rattle.paper.proofs.Agreement as agree
+use Rattle.paper.proofs.Passing.{sample-tests}
+use Rattle.paper.proofs.Fill as filling
+use Rattle.paper.proofs.Cases.{parted}
+use Rattle.paper.proofs.Parted.{Sharing, sharing}
 use Rattle.sheetfile.proofs.RoundTrips as trips
 use Rattle.acceptance.proofs.Exact as exact
 use Rattle.acceptance.proofs.Built as made
@@ -92,7 +101,7 @@ module _ (L : Lattice) (s : Start) (bs : List ℕ) (n : Lengths) where
   accepted-once = exact.accepted-once L s bs n
 
   -- "a directed triangle edge occurs once. Its reverse occurs once too, except .."; "Each side-changing tetrahedron edge of a visited cube
-  -- carries exactly one vertex.": of every file that is accepted
+  -- carries exactly one vertex.": of every file that is accepted. "Outer face" is read as document 02 (iii) has it (`apart` in `Demand3`)
   pub accepted-pairs : checked L s bs n ≡ verdict 0 0 → Demand3 L (startOf L s) (fileEdges bs) (fileCorners bs)
   accepted-pairs = pairs.file L s bs n
 
@@ -107,6 +116,36 @@ pub built-accepted : {L : Lattice} {s : Start} {before : Lent} {r : Built} {afte
     → Writes (L .size) (r .vertices) (r .triangles) (after .vertices) (after .triangles) bytes w bytes′ → w .number ≡ 0
     → (n : Lengths) → judge (sampleTests L s n) .number ≡ 0 → checked L s (take (w .bytes) bytes′) n .number ≡ 0
 built-accepted = made.built-accepted
+
+-- ── document 02 (iii): "−32768 is no sample" ──
+
+-- "Demands 2 and 3 read 'outer face' as any cube face that is not shared by two visitable cubes": where no sample is the fill, these are the
+-- outer faces of the lattice, and what was promised before holds as it was: of every sheet, and of every file that is accepted
+pub sheet-pairs-outer : (L : Lattice) (s : Start) (n : Lengths) → judge (sampleTests L s n) .number ≡ 0 → T (noFill L)
+    → let S = sheetOf L (startOf L s) in Demand3By (outer (L .size)) L (startOf L s) (S .edges) (S .triangles)
+sheet-pairs-outer = pairs.sheet-outer
+
+pub accepted-pairs-outer : (L : Lattice) (s : Start) (bs : List ℕ) (n : Lengths) → checked L s bs n ≡ verdict 0 0 → T (noFill L)
+    → Demand3By (outer (L .size)) L (startOf L s) (fileEdges bs) (fileCorners bs)
+accepted-pairs-outer = pairs.file-outer
+
+-- "a cube with such a corner counts as not crossed and is never visited": from a start that passes its tests
+pub fill-unvisited : (L : Lattice) (s : Start) (n : Lengths) → judge (sampleTests L s n) .number ≡ 0
+    → (k : ℕ) → T (isIn (visited L (startOf L s)) k) → (c : ℕ) → c < 8 → fillAt L (corner (cubeAt (L .size) k) c) ≡ false
+fill-unvisited L s n e = let t = sample-tests L s n e in filling.visited-free L (startOf L s) (t .start) (t .crosses)
+
+-- "Refusals: 5 for a start that holds the fill.": of a cube of the lattice, where 1 to 3 pass
+module _ (L : Lattice) (p : Place) (h : CubeIn (L .size) p) (c : ℕ) (l : c < 8) (f : T (fillAt L (corner p c))) where
+  pub fill-build : {before : Lent} {r : Built} {after : Lent} → Builds L (Cube p) before r after
+      → judge (shapeTests L (lengths (before .work))) .number ≡ 0 → r .number ≡ 5
+  fill-build {before} b e = ap (λ (r : Built). r .number) (b .answer ∙ filling.fill-built L p h c l f before e)
+
+  pub fill-check : (n : Lengths) → judge (shapeTests L n) .number ≡ 0 → (bs : List ℕ) → checked L (Cube p) bs n ≡ verdict 5 0
+  fill-check = filling.fill-checked L p h c l f
+
+-- "Pieces parted by fill may share a lattice edge; each has its own vertex there.": these two do
+pub pieces-share : (L : Lattice) × (j : ℕ) × (k : ℕ) × (e : ℕ) × Sharing L j k e
+pieces-share = (parted, 1, 2, 30, sharing)
 
 -- ── document 02 (i): binary STL; the contracts are `StlWrites` and `StlReads` (stl/specs) ──
 

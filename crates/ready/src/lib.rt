@@ -1,4 +1,4 @@
-// Tests 1 to 5 on the samples, which building and checking share, the rows of sides and the start cube.
+// Tests 1 to 5 on the samples, which building and checking share, the rows of sides and of cubes that may be visited, and the start cube.
 use paper::Place;
 use paper::Sizes;
 use paper::Start;
@@ -47,15 +47,15 @@ fn is_cube(sizes: Sizes, p: Place) -> bool
 }
 
 // Tests 4 and 5 of a named cube.
-fn named_cube(rows: &[u64], sizes: Sizes, p: Place) -> Ready
-    requires { ⌜ Sized sizes × (sizes .ny * sizes .nz ≤ length (now rows)) ⌝ }
-    ensures { λ r. ⌜ ChosenBy sizes (now (rows .entry)) (Cube p) r ⌝ }
+fn named_cube(rows: &[u64], may: &[u64], sizes: Sizes, p: Place) -> Ready
+    requires { ⌜ Sized sizes × (sizes .ny * sizes .nz ≤ length (now rows)) × (sizes .ny * sizes .nz ≤ length (now may)) ⌝ }
+    ensures { λ r. ⌜ ChosenBy sizes (now (rows .entry)) (now (may .entry)) (Cube p) r ⌝ }
 {
     let there = is_cube(sizes, p);
     if !there {
         return Ready { number: 4, cube: 0 };
     }
-    let crossed = rows::crossed_at(rows, sizes, p);
+    let crossed = rows::crossed_at(rows, may, sizes, p);
     if !crossed {
         return Ready { number: 5, cube: 0 };
     }
@@ -66,11 +66,11 @@ fn named_cube(rows: &[u64], sizes: Sizes, p: Place) -> Ready
 }
 
 // Test 5 where no cube is named.
-fn lowest_cube(rows: &[u64], sizes: Sizes) -> Ready
-    requires { ⌜ Sized sizes × (sizes .ny * sizes .nz ≤ length (now rows)) ⌝ }
-    ensures { λ r. ⌜ ChosenBy sizes (now (rows .entry)) Unnamed r ⌝ }
+fn lowest_cube(rows: &[u64], may: &[u64], sizes: Sizes) -> Ready
+    requires { ⌜ Sized sizes × (sizes .ny * sizes .nz ≤ length (now rows)) × (sizes .ny * sizes .nz ≤ length (now may)) ⌝ }
+    ensures { λ r. ⌜ ChosenBy sizes (now (rows .entry)) (now (may .entry)) Unnamed r ⌝ }
 {
-    let k = rows::lowest_crossed(rows, sizes);
+    let k = rows::lowest_crossed(rows, may, sizes);
     let n = lattice::cube_count(sizes);
     if n <= k {
         return Ready { number: 5, cube: 0 };
@@ -78,14 +78,14 @@ fn lowest_cube(rows: &[u64], sizes: Sizes) -> Ready
     Ready { number: 0, cube: k }
 }
 
-// Tests 4 and 5, by the rows of sides.
-fn choose(rows: &[u64], sizes: Sizes, start: Start) -> Ready
-    requires { ⌜ Sized sizes × (sizes .ny * sizes .nz ≤ length (now rows)) ⌝ }
-    ensures { λ r. ⌜ ChosenBy sizes (now (rows .entry)) start r ⌝ }
+// Tests 4 and 5, by the rows of sides and of cubes that may be visited.
+fn choose(rows: &[u64], may: &[u64], sizes: Sizes, start: Start) -> Ready
+    requires { ⌜ Sized sizes × (sizes .ny * sizes .nz ≤ length (now rows)) × (sizes .ny * sizes .nz ≤ length (now may)) ⌝ }
+    ensures { λ r. ⌜ ChosenBy sizes (now (rows .entry)) (now (may .entry)) start r ⌝ }
 {
     match start {
-        Start::Unnamed => lowest_cube(rows, sizes),
-        Start::Cube(p) => named_cube(rows, sizes, p),
+        Start::Unnamed => lowest_cube(rows, may, sizes),
+        Start::Cube(p) => named_cube(rows, may, sizes, p),
     }
 }
 
@@ -108,7 +108,7 @@ pub fn shape(samples: &[i16], sizes: Sizes, words: usize, waiting: usize, slots:
     0
 }
 
-// Tests 1 to 5; where the first three are passed, the rows of sides are made.
+// Tests 1 to 5; where the first three are passed, the rows of sides and of cubes that may be visited are made.
 pub fn begin(
     samples: &[i16],
     sizes: Sizes,
@@ -117,11 +117,12 @@ pub fn begin(
     waiting: usize,
     slots: usize,
     rows: &mut [u64],
+    may: &mut [u64],
 ) -> Ready
-    requires { ⌜ 4096 ≤ length (now rows) ⌝ }
+    requires { ⌜ (4096 ≤ length (now rows)) × (4096 ≤ length (now may)) ⌝ }
     ensures { λ r.
         let L = lattice sizes (now (samples .entry)) in
-        ⌜ Readied L start (ofLengths words waiting slots) (now (rows .exit)) r ⌝ }
+        ⌜ Readied L start (ofLengths words waiting slots) (now (rows .exit)) (now (may .exit)) r ⌝ }
 {
     let number = shape(samples, sizes, words, waiting, slots);
     if number != 0 {
@@ -130,6 +131,7 @@ pub fn begin(
             cube: 0,
         };
     }
-    rows::side_rows(samples, sizes, rows);
-    choose(rows, sizes, start)
+    rows::sample_rows(samples, sizes, rows, may);
+    rows::free_rows(sizes, may);
+    choose(rows, may, sizes, start)
 }

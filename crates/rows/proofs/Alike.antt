@@ -51,16 +51,20 @@ pub record Joined (ws : List ℕ) (o n : ℕ) : Type 0 where
   pub one : (x : ℕ) → bit o x ≡ any (λ w. bit w x) ws
   pub every : (x : ℕ) → bit n x ≡ all (λ w. bit w x) ws
 
+-- whether one of the bits at x and x + 1 is set
+pub any-bit : (ws : List ℕ) (o n x : ℕ) → Joined ws o n → bit (bitOr o (o / 2)) x ≡ any (λ b. b) (pairs ws x)
+any-bit ws o n x j = bit-or o (o / 2) x ∙ ap₂ _||_ (j .one x) (bit-half o x ∙ j .one (x + 1)) ∙ sym (any-pairs ws x)
+
 pub mixed-bit : (w : ℕ) (ws : List ℕ) (o n x : ℕ) → Joined (w ∷ ws) o n → bit (mixedWord o n) x ≡ mixed (pairs (w ∷ ws) x)
 unfolding mixedWord pairs
 mixed-bit w ws o n x j =
     bit-xor (bitOr o (o / 2)) (bitAnd n (n / 2)) x
     ∙ ap₂ xor
-    (bit-or o (o / 2) x ∙ ap₂ _||_ (j .one x) (bit-half o x ∙ j .one (x + 1)) ∙ sym (any-pairs (w ∷ ws) x))
+    (any-bit (w ∷ ws) o n x j)
     (bit-and n (n / 2) x ∙ ap₂ _&&_ (j .every x) (bit-half n x ∙ j .every (x + 1)) ∙ sym (all-pairs (w ∷ ws) x))
     ∙ sym (mixed-xor (bit w x) (bit w (x + 1) ∷ pairs ws x))
 
-any-map : {A : Type 0} (f : A → Bool) (l : List A) → any (λ b. b) (map f l) ≡ any f l
+pub any-map : {A : Type 0} (f : A → Bool) (l : List A) → any (λ b. b) (map f l) ≡ any f l
 any-map f [] = refl
 any-map f (a ∷ l) = ap (λ (b : Bool). f a || b) (any-map f l)
 

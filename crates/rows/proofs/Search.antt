@@ -6,6 +6,7 @@ use Prim.Native.Nat.{ℕ, _+_, _-_, _*_, _≤_, _<_}
 use native.Mathlib.Omega.{arith}
 use native.Mathlib.Decide.{decLt}
 use lib.Dec.{eqb}
+use lib.ListN.{getD}
 use borrow.Author.Tests.{eqb-true}
 use Rattle.lists.proofs.Runs.{first-at, first-none}
 use Rattle.paper.specs.declared.Sizes.{Sizes}
@@ -13,10 +14,10 @@ use Rattle.paper.specs.declared.Place.{Place}
 use Rattle.paper.specs.Lattice.{Lattice, place, crossed, cubes, cubeNo, cubeAt, lowest}
 use Rattle.paper.specs.Within.{Sized, CubeIn}
 use Rattle.paper.proofs.Numbers.{cube-place, cube-inside, cube-back, cube-lt}
-use Rattle.bits.specs.Words.{bit, word}
-use Rattle.bits.proofs.Bits.{bit-of-0, bit-word}
-use Rattle.rows.specs.Rows.{HasRows, quadAt, crossedIn, crossedBy, lookedAt}
-use Rattle.rows.proofs.Cubes.{crossed-is}
+use Rattle.bits.specs.Words.{bit}
+use Rattle.bits.proofs.Bits.{bit-of-0}
+use Rattle.rows.specs.Rows.{HasBoth, quadAt, crossedRow, crossedBy, lookedAt}
+use Rattle.rows.proofs.Cubes.{crossed-bit, crossed-is}
 
 -- the lowest crossed cube, by numbers: none below the number of cubes, or one with none below it
 module _ (L : Lattice) (k : ℕ) (below : (j : ℕ) → j < k → crossed L j ≡ false) where
@@ -54,37 +55,39 @@ looked-le m n = go (eqb m 0)
     go true = omega arith
     go false = omega arith
 
-module _ (z : Sizes) (rows : List ℕ) where
+module _ (z : Sizes) (rows may : List ℕ) where
   -- no cube below k is crossed
   abbrev pub Clear : ℕ → Type 0
-  Clear k = (j : ℕ) → j < k → crossedBy z rows (cubeAt z j) ≡ false
+  Clear k = (j : ℕ) → j < k → crossedBy z rows may (cubeAt z j) ≡ false
 
-  -- the bits of a row of cubes
-  pub row-bit : (m y w x : ℕ) → m ≡ word (crossedIn (quadAt rows (z .ny) (y + z .ny * w))) (z .nx - 1) → x < z .nx - 1 → bit m x
-      ≡ crossedBy z rows (place x y w)
+  -- the crossed cubes of a row
+  abbrev pub crossedAt : ℕ → ℕ → ℕ
+  crossedAt y w = crossedRow (quadAt rows (z .ny) (y + z .ny * w)) (getD may (y + z .ny * w) 0)
+
+  pub row-bit : (m y w x : ℕ) → m ≡ crossedAt y w → bit m x ≡ crossedBy z rows may (place x y w)
   unfolding crossedBy
-  row-bit m y w x e l = ap (λ (m : ℕ). bit m x) e ∙ bit-word (crossedIn (quadAt rows (z .ny) (y + z .ny * w))) (z .nx - 1) x l
+  row-bit m y w x e = ap (λ (m : ℕ). bit m x) e ∙ crossed-bit (quadAt rows (z .ny) (y + z .ny * w)) (getD may (y + z .ny * w) 0) x
 
   -- with the first n cubes of the row at y and w
-  pub clear-row : (m y w n : ℕ) → m ≡ word (crossedIn (quadAt rows (z .ny) (y + z .ny * w))) (z .nx - 1) → y < z .ny - 1 → n ≤ z .nx - 1
+  pub clear-row : (m y w n : ℕ) → m ≡ crossedAt y w → y < z .ny - 1 → n ≤ z .nx - 1
       → Clear ((z .nx - 1) * (y + (z .ny - 1) * w)) → ((x : ℕ) → x < n → bit m x ≡ false) → Clear (n + (z .nx - 1) * (y + (z .ny - 1) * w))
   unfolding cubeNo
   clear-row m y w n e hy hn c h j l = go (decLt j ((z .nx - 1) * (y + (z .ny - 1) * w)))
     where
-      go : Dec (j < (z .nx - 1) * (y + (z .ny - 1) * w)) → crossedBy z rows (cubeAt z j) ≡ false
+      go : Dec (j < (z .nx - 1) * (y + (z .ny - 1) * w)) → crossedBy z rows may (cubeAt z j) ≡ false
       go (yes k) = c j k
       go (no k) =
           let x = j - (z .nx - 1) * (y + (z .ny - 1) * w) in
           let q : j ≡ x + (z .nx - 1) * (y + (z .ny - 1) * w) = omega arith in
           let hx : x < n = omega arith in
-          ap (crossedBy z rows) (ap (cubeAt z) q ∙ cube-place z (place x y w) (omega arith) hy)
-          ∙ (sym (row-bit m y w x e (omega arith)) ∙ h x hx)
+          ap (crossedBy z rows may) (ap (cubeAt z) q ∙ cube-place z (place x y w) (omega arith) hy)
+          ∙ (sym (row-bit m y w x e) ∙ h x hx)
 
 -- a loop of the search has come to i of its end: nothing is found, and no cube below k is crossed
-pub record Seeking (z : Sizes) (rows : List ℕ) (end found i k : ℕ) : Type 0 where
+pub record Seeking (z : Sizes) (rows may : List ℕ) (end found i k : ℕ) : Type 0 where
   pub upto : i ≤ end
   pub none : found ≡ cubes z
-  pub clear : Clear z rows k
+  pub clear : Clear z rows may k
 
 -- the loop over the first n bits of a row has come to x: nothing is found, and no bit below x is set
 pub record Looking (z : Sizes) (m n found x : ℕ) : Type 0 where
@@ -94,17 +97,18 @@ pub record Looking (z : Sizes) (m n found x : ℕ) : Type 0 where
 
 -- ── what that says of the lattice ──
 
-module _ (L : Lattice) (rows : List ℕ) (s : Sized (L .size)) (h : HasRows L rows) where
-  crossed-no : (j : ℕ) → j < cubes (L .size) → crossed L j ≡ crossedBy (L .size) rows (cubeAt (L .size) j)
+module _ (L : Lattice) (rows may : List ℕ) (s : Sized (L .size)) (h : HasBoth L rows may) where
+  crossed-no : (j : ℕ) → j < cubes (L .size) → crossed L j ≡ crossedBy (L .size) rows may (cubeAt (L .size) j)
   crossed-no j l =
-      sym (crossed-is L rows h (cubeAt (L .size) j) (cube-inside (L .size) s j l) ∙ ap (crossed L) (cube-back (L .size) s j l))
+      sym (crossed-is L rows (h .sides) (cubeAt (L .size) j) (cube-inside (L .size) s j l) may (h .free)
+      ∙ ap (crossed L) (cube-back (L .size) s j l))
 
-  pub none-lowest : Clear (L .size) rows (cubes (L .size)) → cubes (L .size) ≡ lowest (L .size) (crossed L)
+  pub none-lowest : Clear (L .size) rows may (cubes (L .size)) → cubes (L .size) ≡ lowest (L .size) (crossed L)
   none-lowest c = none L (cubes (L .size)) (λ j l. crossed-no j l ∙ c j l) refl
 
-  pub found-lowest : (p : Place) → CubeIn (L .size) p → Clear (L .size) rows (cubeNo (L .size) p) → crossedBy (L .size) rows p ≡ true
+  pub found-lowest : (p : Place) → CubeIn (L .size) p → Clear (L .size) rows may (cubeNo (L .size) p) → crossedBy (L .size) rows may p ≡ true
       → cubeNo (L .size) p ≡ lowest (L .size) (crossed L)
   found-lowest p i c t =
       let n = cubeNo (L .size) p in
       let l : n < cubes (L .size) = cube-lt (L .size) p i in
-      found L n (λ j g. crossed-no j (omega arith) ∙ c j g) l (sym (crossed-is L rows h p i) ∙ t)
+      found L n (λ j g. crossed-no j (omega arith) ∙ c j g) l (sym (crossed-is L rows (h .sides) p i may (h .free)) ∙ t)

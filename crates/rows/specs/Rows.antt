@@ -1,16 +1,16 @@
--- The sides of a row of samples as one word, and what rows say of cubes and faces. Assumes nothing.
+-- The sides of a row of samples as one word, and its fill as another; what rows say of cubes and faces. Assumes nothing.
 use mathlib.Core.Path.{_≡_}
-use mathlib.Core.Bool.{Bool, cond, _&&_}
+use mathlib.Core.Bool.{Bool, cond, not, _&&_}
 use mathlib.Core.List.{List, [], _∷_, map}
-use Prim.Native.Nat.{ℕ, _+_, _-_, _*_, _/_, _%_, _≤_, _<_}
+use Prim.Native.Nat.{ℕ, _+_, _-_, _*_, _/_, _%_, _^_, _≤_, _<_}
 use lib.Bits.{bitAnd, bitOr, bitXor}
 use lib.Dec.{eqb}
 use lib.IntN.{ℤ, pos}
 use lib.ListN.{length, getD}
-use Rattle.lists.specs.Lists.{range, each, isIn}
+use Rattle.lists.specs.Lists.{range, each, any, isIn}
 use Rattle.paper.specs.declared.Sizes.{Sizes}
 use Rattle.paper.specs.declared.Place.{Place}
-use Rattle.paper.specs.Lattice.{Lattice, place, air, airAt, mixed, cubeNo, inLattice}
+use Rattle.paper.specs.Lattice.{Lattice, place, air, airAt, isFill, mixed, cubeNo, inLattice, visitable}
 use Rattle.sides.specs.Pattern.{bits}
 use Rattle.bits.specs.Words.{bit, word, raised}
 use Rattle.rows.specs.declared.Quad.{Quad}
@@ -19,24 +19,52 @@ use Rattle.rows.specs.declared.Quad.{Quad}
 abbrev pub rowNo : Sizes → Place → ℕ
 rowNo n p = p .y + n .ny * p .z
 
--- ── rows of sides ──
+-- ── rows of samples ──
 
--- the sides of the n samples from i on: bit x is that of sample i + x
-unfoldable pub sidesFrom : List ℤ → ℕ → ℕ → ℕ
-sidesFrom s i n = word (λ x. air (getD s (i + x) (pos 0))) n
+-- which of the n samples from i on pass a test: bit x is that of sample i + x
+unfoldable pub passFrom : (ℤ → Bool) → List ℤ → ℕ → ℕ → ℕ
+passFrom t s i n = word (λ x. t (getD s (i + x) (pos 0))) n
+
+-- their sides, which of them are the fill, and both: a byte of each for eight samples
+abbrev pub sidesFrom : List ℤ → ℕ → ℕ → ℕ
+sidesFrom = passFrom air
+
+abbrev pub fillsFrom : List ℤ → ℕ → ℕ → ℕ
+fillsFrom = passFrom isFill
+
+unfoldable pub codesFrom : List ℤ → ℕ → ℕ → ℕ
+codesFrom s i n = sidesFrom s i n + 256 * fillsFrom s i n
+
+-- which of the samples of each row pass a test, y within z
+unfoldable pub passRows : (ℤ → Bool) → Lattice → List ℕ
+passRows t L = map (λ r. passFrom t (L .values) (L .size .nx * r) (L .size .nx)) (range 0 (L .size .ny * L .size .nz))
+
+-- all side rows, and all rows of the fill
+abbrev pub sideRows : Lattice → List ℕ
+sideRows = passRows air
+
+abbrev pub fillRows : Lattice → List ℕ
+fillRows = passRows isFill
 
 -- the sides of the samples at y and z: bit x is that of (x, y, z)
 unfoldable pub sideRow : Lattice → ℕ → ℕ → ℕ
 sideRow L y z = word (λ x. airAt L (place x y z)) (L .size .nx)
 
--- all side rows, y within z
-unfoldable pub sideRows : Lattice → List ℕ
-sideRows L = map (λ r. sidesFrom (L .values) (L .size .nx * r) (L .size .nx)) (range 0 (L .size .ny * L .size .nz))
-
 -- the front of these words is the lattice's side rows
 pub record HasRows (L : Lattice) (rows : List ℕ) : Type 0 where
   pub long : L .size .ny * L .size .nz ≤ length rows
   pub at : (y z : ℕ) → y < L .size .ny → z < L .size .nz → getD rows (y + L .size .ny * z) 0 ≡ sideRow L y z
+
+-- these words have the cubes that may be visited, a word to a row of cubes
+pub record HasFree (L : Lattice) (may : List ℕ) : Type 0 where
+  pub long : L .size .ny * L .size .nz ≤ length may
+  pub at : (y z x : ℕ) → y + 1 < L .size .ny → z + 1 < L .size .nz
+      → bit (getD may (y + L .size .ny * z) 0) x ≡ visitable L (place x y z)
+
+-- both
+pub record HasBoth (L : Lattice) (rows may : List ℕ) : Type 0 where
+  pub sides : HasRows L rows
+  pub free : HasFree L may
 
 -- ── rows of cubes ──
 
@@ -47,10 +75,6 @@ isOneOf n vs p = inLattice n p && isIn vs (cubeNo n p)
 -- the front of these words has the cubes of vs, a word to a row
 pub record HasCubes (n : Sizes) (vs words : List ℕ) : Type 0 where
   pub at : (y z x : ℕ) → y < n .ny → z < n .nz → bit (getD words (y + n .ny * z) 0) x ≡ isOneOf n vs (place x y z)
-
--- row r of the four at y and z: 0 there, 1 at the next y, 2 at the next z, 3 at both
-unfoldable pub sideRowBy : Lattice → ℕ → ℕ → ℕ → ℕ
-sideRowBy L y z r = sideRow L (y + r % 2) (z + r / 2)
 
 -- the four words from r on, ny words to a layer
 unfoldable pub quadAt : List ℕ → ℕ → ℕ → Quad
@@ -79,7 +103,18 @@ cornerBit q x c = raised (getD (four q) (c / 2) 0) (c % 2) x
 unfoldable pub pairs : List ℕ → ℕ → List Bool
 pairs ws x = each (λ w. bit w x ∷ bit w (x + 1) ∷ []) ws
 
--- whether cube x of the row is crossed, and its pattern
+-- whether no corner of cube x of the row is in the words, and how many rows have all four
+unfoldable pub freeIn : Quad → ℕ → Bool
+freeIn q x = not (any (λ b. b) (pairs (four q) x))
+
+abbrev pub quads : Sizes → ℕ
+quads n = n .ny * (n .nz - 1) - 1
+
+-- the cubes of each row that have no corner in the words
+unfoldable pub freeRows : Sizes → List ℕ → List ℕ
+freeRows n fills = map (λ r. word (freeIn (quadAt fills (n .ny) r)) (n .nx - 1)) (range 0 (quads n))
+
+-- whether the corners of cube x of the row are mixed, and its pattern
 unfoldable pub crossedIn : Quad → ℕ → Bool
 crossedIn q x = mixed (pairs (four q) x)
 
@@ -102,6 +137,14 @@ mixedIn q i x = mixed (pairs (map (λ r. getD (four q) r 0) (faceRows i)) x)
 unfoldable pub mixedWord : ℕ → ℕ → ℕ
 mixedWord o n = bitXor (bitOr o (o / 2)) (bitAnd n (n / 2))
 
+-- the cubes of m that are mixed
+unfoldable pub crossedRow : Quad → ℕ → ℕ
+crossedRow q m = bitAnd m (mixedWord (eitherOf q) (bothOf q))
+
+-- the mixed faces across x between two cubes of m: bit x + 1 is that of cubes x and x + 1
+unfoldable pub gateRow : Quad → ℕ → ℕ
+gateRow q m = bitAnd (bitAnd m ((m * 2 ^ 1) % 2 ^ 64)) (bitXor (eitherOf q) (bothOf q))
+
 -- the mixed ones of the faces i of a row
 unfoldable pub faceRow : Quad → ℕ → ℕ
 faceRow q i =
@@ -109,9 +152,9 @@ faceRow q i =
     let v = getD (four q) (getD (faceRows i) 1 0) 0 in
     mixedWord (bitOr u v) (bitAnd u v)
 
--- whether the cube at p is crossed, by rows of a lattice of size z
-unfoldable pub crossedBy : Sizes → List ℕ → Place → Bool
-crossedBy z rows p = crossedIn (quadAt rows (z .ny) (rowNo z p)) (p .x)
+-- whether the cube at p is crossed, by rows of sides and of cubes that may be visited, of a lattice of size z
+unfoldable pub crossedBy : Sizes → List ℕ → List ℕ → Place → Bool
+crossedBy z rows may p = bit (getD may (rowNo z p) 0) (p .x) && crossedIn (quadAt rows (z .ny) (rowNo z p)) (p .x)
 
 -- how many bits of a word to look at: none where there is none
 unfoldable pub lookedAt : ℕ → ℕ → ℕ

@@ -1,17 +1,17 @@
-// Rows of sides: the sides of up to 64 samples as one word, and what they say of rows of cubes.
+// Rows of samples: the sides of up to 64 of them as one word, those that are the fill as another, and what they say of rows of cubes.
 use paper::Place;
 use paper::Sizes;
 ghost use mathlib.Core.Path.{_≡_};
 ghost use mathlib.Core.List.{List};
 ghost use lib.IntN.{ℤ};
-ghost use Prim.Native.Nat.{_+_, _-_, _*_, _^_, _≤_, _<_};
-ghost use lib.ListN.{length};
+ghost use Prim.Native.Nat.{_+_, _*_, _≤_, _<_};
+ghost use lib.ListN.{length, getD};
 ghost use Rattle.lists.specs.Lists.{over};
-ghost use Rattle.paper.specs.Lattice.{lattice, air, cubeNo, crossed, lowest};
+ghost use Rattle.paper.specs.Lattice.{lattice, air, isFill, cubeNo, crossed, lowest};
 ghost use Rattle.paper.specs.Sheet.{weight};
 ghost use Rattle.paper.specs.Within.{Sized, Full, CubeIn};
 ghost use Rattle.bits.specs.Words.{bit, word};
-ghost use Rattle.rows.specs.Rows.{HasRows, sidesFrom, sideRows, eitherOf, bothOf, mixedWord, quadAt, crossedIn, acrossIn, faceRow, patternIn, lookedAt};
+ghost use Rattle.rows.specs.Rows.{HasBoth, sidesFrom, fillsFrom, codesFrom, sideRows, fillRows, eitherOf, bothOf, mixedWord, quadAt, freeIn, freeRows, crossedRow, gateRow, faceRow, patternIn, lookedAt};
 
 // The side rows of a row of cubes: at its low y and z, at its high y, at its high z, at both.
 pub struct Quad {
@@ -21,70 +21,90 @@ pub struct Quad {
     pub d: u64,
 }
 
-// 1 for air and 0 for solid.
-fn side(v: i16) -> u64
-    ensures { λ r. ⌜ (r ≡ weight (air v) 1) × (r ≤ 1) ⌝ }
-{
-    if sides::is_air(v) { 1 } else { 0 }
+// A row of samples: which of them are air, and which are the fill.
+pub struct Twin {
+    pub sides: u64,
+    pub fills: u64,
 }
 
-// The side of sample i.
-fn side_at(samples: &[i16], i: usize) -> u64
+// 1 for air, 256 for the fill, 0 for solid else.
+fn code(v: i16) -> u16
+    ensures { λ r. ⌜ (r ≡ weight (air v) 1 + 256 * weight (isFill v) 1) × (r ≤ 257) ⌝ }
+{
+    if sides::is_air(v) {
+        return 1;
+    }
+    if sides::is_fill(v) { 256 } else { 0 }
+}
+
+// The code of sample i.
+fn code_at(samples: &[i16], i: usize) -> u16
     requires { ⌜ i < length (now samples) ⌝ }
-    ensures { λ r. ⌜ (r ≡ sidesFrom (now (samples .entry)) i 1) × (r ≤ 1) ⌝ }
+    ensures { λ r. ⌜ (r ≡ codesFrom (now (samples .entry)) i 1) × (r ≤ 257) ⌝ }
 {
-    side(samples[i])
+    code(samples[i])
 }
 
-// The sides of four samples from i on.
-fn four(samples: &[i16], i: usize) -> u64
+// The codes of four samples from i on.
+fn four(samples: &[i16], i: usize) -> u16
     requires { ⌜ i + 4 ≤ length (now samples) ⌝ }
-    ensures { λ r. ⌜ (r ≡ sidesFrom (now (samples .entry)) i 4) × (r ≤ 15) ⌝ }
+    ensures { λ r. ⌜ (r ≡ codesFrom (now (samples .entry)) i 4) × (r ≤ 3855) ⌝ }
 {
-    let a = side_at(samples, i);
-    let b = side_at(samples, i + 1);
-    let c = side_at(samples, i + 2);
-    let d = side_at(samples, i + 3);
+    let a = code_at(samples, i);
+    let b = code_at(samples, i + 1);
+    let c = code_at(samples, i + 2);
+    let d = code_at(samples, i + 3);
     a + 2 * b + 4 * c + 8 * d
 }
 
-// The sides of eight samples from i on.
-fn eight(samples: &[i16], i: usize) -> u64
+// The codes of eight samples from i on.
+fn eight(samples: &[i16], i: usize) -> u16
     requires { ⌜ i + 8 ≤ length (now samples) ⌝ }
-    ensures { λ r. ⌜ (r ≡ sidesFrom (now (samples .entry)) i 8) × (r ≤ 255) ⌝ }
+    ensures { λ r. ⌜ r ≡ codesFrom (now (samples .entry)) i 8 ⌝ }
 {
     let a = four(samples, i);
     let b = four(samples, i + 4);
     a + 16 * b
 }
 
-// The sides of n samples from the first on: from their end, one by one down to a multiple of eight, and then eight at a time.
-pub fn side_row(samples: &[i16], first: usize, n: usize) -> u64
+// The n samples from the first on: from their end, one by one down to a multiple of eight, and then eight at a time.
+pub fn sample_row(samples: &[i16], first: usize, n: usize) -> Twin
     requires { ⌜ (first + n ≤ length (now samples)) × (n ≤ 64) ⌝ }
-    ensures { λ r. ⌜ (r ≡ sidesFrom (now (samples .entry)) first n) × (r < 2 ^ n) ⌝ }
+    ensures { λ r.
+        let s = now (samples .entry) in
+        ⌜ (r .sides ≡ sidesFrom s first n) × (r .fills ≡ fillsFrom s first n) ⌝ }
 {
     let mut k = n;
     let mut w: u64 = 0;
+    let mut f: u64 = 0;
     while k % 8 != 0 {
         k -= 1;
-        w = 2 * w + side_at(samples, first + k);
+        let c = code_at(samples, first + k);
+        w = 2 * w + (c % 256) as u64;
+        f = 2 * f + (c / 256) as u64;
     }
     while 0 < k {
         k -= 8;
-        w = 256 * w + eight(samples, first + k);
+        let c = eight(samples, first + k);
+        w = 256 * w + (c % 256) as u64;
+        f = 256 * f + (c / 256) as u64;
     }
-    w
+    Twin { sides: w, fills: f }
 }
 
-// All side rows.
-pub fn side_rows(samples: &[i16], sizes: Sizes, rows: &mut [u64])
-    requires { ⌜ Full (lattice sizes (now samples)) × (sizes .ny * sizes .nz ≤ length (now rows)) ⌝ }
-    ensures { λ _. ⌜ now (rows .exit) ≡ over (sideRows (lattice sizes (now (samples .entry)))) (now (rows .entry)) ⌝ }
+// All rows of sides and of the fill, each sample read once.
+pub fn sample_rows(samples: &[i16], sizes: Sizes, rows: &mut [u64], fills: &mut [u64])
+    requires { ⌜ Full (lattice sizes (now samples)) × (sizes .ny * sizes .nz ≤ length (now rows)) × (sizes .ny * sizes .nz ≤ length (now fills)) ⌝ }
+    ensures { λ _.
+        let L = lattice sizes (now (samples .entry)) in
+        ⌜ (now (rows .exit) ≡ over (sideRows L) (now (rows .entry))) × (now (fills .exit) ≡ over (fillRows L) (now (fills .entry))) ⌝ }
 {
     let n = sizes.ny * sizes.nz;
     let mut r = 0;
     while r < n {
-        rows[r] = side_row(samples, sizes.nx * r, sizes.nx);
+        let t = sample_row(samples, sizes.nx * r, sizes.nx);
+        rows[r] = t.sides;
+        fills[r] = t.fills;
         r += 1;
     }
 }
@@ -127,24 +147,46 @@ pub fn quad_at(rows: &[u64], ny: usize, r: usize) -> Quad
     }
 }
 
-// The crossed ones of the first n cubes of a row.
-pub fn crossed_row(q: Quad, n: usize) -> u64
+// The first n cubes of a row that have no corner in the words.
+fn free_row(q: Quad, n: usize) -> u64
     requires { ⌜ n < 64 ⌝ }
-    ensures { λ r. ⌜ (r ≡ word (crossedIn q) n) × (r < 2 ^ n) ⌝ }
+    ensures { λ r. ⌜ r ≡ word (freeIn q) n ⌝ }
 {
     let o = either(q);
-    let a = both(q);
-    mixed(o, a) & bits::low_bits(n)
+    let low = bits::low_bits(n);
+    low - ((o | (o >> 1)) & low)
 }
 
-// The mixed ones of the faces across x of a row, below n.
-pub fn gate_row(q: Quad, n: usize) -> u64
-    requires { ⌜ n < 64 ⌝ }
-    ensures { λ r. ⌜ r ≡ word (acrossIn q) n ⌝ }
+// In place of all rows of the fill, the cubes of each row that are free of it.
+pub fn free_rows(sizes: Sizes, words: &mut [u64])
+    requires { ⌜ Sized sizes × (sizes .ny * sizes .nz ≤ length (now words)) ⌝ }
+    ensures { λ _. ⌜ now (words .exit) ≡ over (freeRows sizes (now (words .entry))) (now (words .entry)) ⌝ }
+{
+    let n = sizes.ny * (sizes.nz - 1) - 1;
+    let mut r = 0;
+    while r < n {
+        let q = quad_at(words, sizes.ny, r);
+        words[r] = free_row(q, sizes.nx - 1);
+        r += 1;
+    }
+}
+
+// The crossed ones of the cubes m of a row.
+fn crossed_row(q: Quad, m: u64) -> u64
+    ensures { λ r. ⌜ r ≡ crossedRow q m ⌝ }
 {
     let o = either(q);
     let a = both(q);
-    (o ^ a) & bits::low_bits(n)
+    m & mixed(o, a)
+}
+
+// The mixed ones of the faces across x between the cubes m of a row.
+pub fn gate_row(q: Quad, m: u64) -> u64
+    ensures { λ r. ⌜ r ≡ gateRow q m ⌝ }
+{
+    let o = either(q);
+    let a = both(q);
+    (m & (m << 1)) & (o ^ a)
 }
 
 // The mixed ones of the faces i of a row of cubes: 2 and 3 at the low and the high y end, 4 and 5 at those of z.
@@ -196,31 +238,38 @@ pub fn to_look_at(m: u64, n: usize) -> usize
 }
 
 // The crossed cubes at y and z.
-pub fn crossed_cubes(rows: &[u64], sizes: Sizes, y: usize, z: usize) -> u64
-    requires { ⌜ Sized sizes × (sizes .ny * sizes .nz ≤ length (now rows)) × (y + 1 < sizes .ny) × (z + 1 < sizes .nz) ⌝ }
-    ensures { λ r. ⌜ r ≡ word (crossedIn (quadAt (now (rows .entry)) (sizes .ny) (y + sizes .ny * z))) (sizes .nx - 1) ⌝ }
+fn crossed_cubes(rows: &[u64], may: &[u64], sizes: Sizes, y: usize, z: usize) -> u64
+    requires { ⌜ Sized sizes × (sizes .ny * sizes .nz ≤ length (now rows)) × (sizes .ny * sizes .nz ≤ length (now may)) ⌝ }
+    requires { ⌜ (y + 1 < sizes .ny) × (z + 1 < sizes .nz) ⌝ }
+    ensures { λ r.
+        let at = y + sizes .ny * z in
+        ⌜ r ≡ crossedRow (quadAt (now (rows .entry)) (sizes .ny) at) (getD (now (may .entry)) at 0) ⌝ }
 {
-    crossed_row(quad_at(rows, sizes.ny, y + sizes.ny * z), sizes.nx - 1)
+    let r = y + sizes.ny * z;
+    let m = may[r];
+    crossed_row(quad_at(rows, sizes.ny, r), m)
 }
 
 // Whether the cube at p of the lattice that has these rows is crossed.
-pub fn crossed_at(rows: &[u64], sizes: Sizes, p: Place) -> bool
-    requires { ⌜ Sized sizes × (sizes .ny * sizes .nz ≤ length (now rows)) × CubeIn sizes p ⌝ }
-    ensures { λ r. ⌜ ((s : List ℤ) → let L = lattice sizes s in HasRows L (now (rows .entry)) → r ≡ crossed L (cubeNo sizes p)) ⌝ }
+pub fn crossed_at(rows: &[u64], may: &[u64], sizes: Sizes, p: Place) -> bool
+    requires { ⌜ Sized sizes × (sizes .ny * sizes .nz ≤ length (now rows)) × (sizes .ny * sizes .nz ≤ length (now may)) × CubeIn sizes p ⌝ }
+    ensures { λ r.
+        ⌜ ((s : List ℤ) → let L = lattice sizes s in HasBoth L (now (rows .entry)) (now (may .entry)) → r ≡ crossed L (cubeNo sizes p)) ⌝ }
 {
-    let m = crossed_cubes(rows, sizes, p.y, p.z);
+    let m = crossed_cubes(rows, may, sizes, p.y, p.z);
     bits::has_bit(m, p.x)
 }
 
 // The number of the lowest crossed cube of the lattice that has these rows, or the number of cubes where none is crossed.
-pub fn lowest_crossed(rows: &[u64], sizes: Sizes) -> usize
-    requires { ⌜ Sized sizes × (sizes .ny * sizes .nz ≤ length (now rows)) ⌝ }
-    ensures { λ r. ⌜ ((s : List ℤ) → let L = lattice sizes s in HasRows L (now (rows .entry)) → r ≡ lowest sizes (crossed L)) ⌝ }
+pub fn lowest_crossed(rows: &[u64], may: &[u64], sizes: Sizes) -> usize
+    requires { ⌜ Sized sizes × (sizes .ny * sizes .nz ≤ length (now rows)) × (sizes .ny * sizes .nz ≤ length (now may)) ⌝ }
+    ensures { λ r.
+        ⌜ ((s : List ℤ) → let L = lattice sizes s in HasBoth L (now (rows .entry)) (now (may .entry)) → r ≡ lowest sizes (crossed L)) ⌝ }
 {
     let mut found = lattice::cube_count(sizes);
     'sought: for z in 0..sizes.nz - 1 {
         for y in 0..sizes.ny - 1 {
-            let m = crossed_cubes(rows, sizes, y, z);
+            let m = crossed_cubes(rows, may, sizes, y, z);
             let n = to_look_at(m, sizes.nx - 1);
             for x in 0..n {
                 if bits::has_bit(m, x) {

@@ -5,14 +5,15 @@ use paper::Start;
 use tally::Counts;
 ghost use mathlib.Core.Path.{_≡_};
 ghost use Prim.Native.Nat.{_*_, _/_, _≤_, _<_};
+ghost use lib.Dec.{T};
 ghost use lib.ListN.{length};
 ghost use Rattle.lists.specs.Lists.{Beyond};
-ghost use Rattle.paper.specs.Lattice.{lattice, cubes};
+ghost use Rattle.paper.specs.Lattice.{lattice, cubes, crossed};
 ghost use Rattle.paper.specs.Tests.{judge};
 ghost use Rattle.paper.specs.Room.{work, lengths, neededSlots, roomTests};
 ghost use Rattle.paper.specs.Build.{lent, Builds};
 ghost use Rattle.paper.specs.Within.{Full, Roomy};
-ghost use Rattle.rows.specs.Rows.{HasRows};
+ghost use Rattle.rows.specs.Rows.{HasBoth};
 ghost use Rattle.spread.specs.Flooded.{Standing};
 ghost use Rattle.sheet.specs.Output.{output, Fits, Puts, BuildsFrom};
 
@@ -61,12 +62,13 @@ fn put_sheet(
     tiles::put_triangles(&table[..], &counts[..], slots, rows, vis, sizes, triangles);
 }
 
-// The sheet from cube k of a lattice that has these rows of sides, past tests 1 to 5.
+// The sheet from cube k, a crossed one, of a lattice that has these rows of sides and of cubes that may be visited, past tests 1 to 5.
 fn build_from(
     samples: &[i16],
     sizes: Sizes,
     k: usize,
     rows: &[u64],
+    may: &[u64],
     vertices: &mut [i32],
     triangles: &mut [u32],
     words: &mut [u16],
@@ -74,14 +76,15 @@ fn build_from(
     slots: &mut [u32],
 ) -> Built
     requires { let L = lattice sizes (now samples) in
-        ⌜ Full L × HasRows L (now rows) × (k < cubes sizes) × Roomy sizes (lengths (work (now words) (now waiting) (now slots))) ⌝ }
+        ⌜ Full L × HasBoth L (now rows) (now may) × (k < cubes sizes) × T (crossed L k)
+        × Roomy sizes (lengths (work (now words) (now waiting) (now slots))) ⌝ }
     ensures { λ r.
         let before = lent (now (vertices .entry)) (now (triangles .entry)) (work (now (words .entry)) (now (waiting .entry)) (now (slots .entry))) in
         let after = lent (now (vertices .exit)) (now (triangles .exit)) (work (now (words .exit)) (now (waiting .exit)) (now (slots .exit))) in
         ⌜ BuildsFrom (lattice sizes (now (samples .entry))) k before r after ⌝ }
 {
     let mut vis = [0u64; 4096];
-    let visits = spread::visit(rows, sizes, k, &mut vis[..], waiting);
+    let visits = spread::visit(rows, may, sizes, k, &mut vis[..], waiting);
     let c = tally::counts_of(rows, &vis[..], sizes);
     let number = room_number(c, vertices.len(), triangles.len());
     put_sheet(
@@ -120,6 +123,7 @@ pub fn build(
         ⌜ Builds (lattice sizes (now (samples .entry))) start before r after ⌝ }
 {
     let mut rows = [0u64; 4096];
+    let mut may = [0u64; 4096];
     let b = ready::begin(
         samples,
         sizes,
@@ -128,6 +132,7 @@ pub fn build(
         waiting.len(),
         slots.len(),
         &mut rows[..],
+        &mut may[..],
     );
     if b.number != 0 {
         return Built {
@@ -142,6 +147,7 @@ pub fn build(
         sizes,
         b.cube,
         &rows[..],
+        &may[..],
         vertices,
         triangles,
         words,

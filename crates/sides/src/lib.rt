@@ -1,7 +1,7 @@
-// The side of a sample, a corner's side in a pattern, and digits of words.
+// The side of a sample, whether it is the fill, a corner's side in a pattern, and digits of words.
 ghost use mathlib.Core.Path.{_≡_};
 ghost use Prim.Native.Nat.{_≤_, _<_};
-ghost use Rattle.paper.specs.Lattice.{air};
+ghost use Rattle.paper.specs.Lattice.{air, isFill};
 ghost use Rattle.sides.specs.Pattern.{bitOf, digitOf};
 
 // Above 0 is air.
@@ -9,6 +9,13 @@ pub fn is_air(v: i16) -> bool
     ensures { λ r. ⌜ r ≡ air v ⌝ }
 {
     0 < v
+}
+
+// -32768 is the fill.
+pub fn is_fill(v: i16) -> bool
+    ensures { λ r. ⌜ r ≡ isFill v ⌝ }
+{
+    v == -32768
 }
 
 // The side of corner c in a pattern.

@@ -1,29 +1,29 @@
--- The gates and doors of rows of sides mean document 01's faces. Assumes nothing.
-use mathlib.Core.Path.{_≡_, refl, sym, ap, ap₂, _∙_}
-use mathlib.Core.Bool.{Bool, true, false, cond, _&&_}
+-- The gates and doors of rows mean document 01's faces between cubes that may be visited. Assumes nothing.
+use mathlib.Core.Path.{_≡_, refl, sym, ap, ap₂, subst, _∙_}
+use mathlib.Core.Bool.{Bool, true, false, cond, _&&_, and-comm}
 use mathlib.Core.List.{List}
 use Prim.Native.Nat.{ℕ, zero, suc, _+_, _-_, _*_, _/_, _%_, _<_}
 use native.Mathlib.Omega.{arith}
-use native.Mathlib.Decide.{decLt}
 use lib.Dec.{T, ltb, ltb→lt, lt→ltb}
 use lib.Arith.{digits-lt}
-use lib.ListN.{replicate, getD-replicate, length-replicate}
-use borrow.Author.Tests.{lt-ltb}
-use Rattle.lists.proofs.Member.{T→eq, and3, and-both, and-left}
+use lib.Bits.{bitAnd}
+use lib.ListN.{getD, replicate, getD-replicate, length-replicate}
+use Rattle.lists.proofs.Member.{T→eq, eq→T, and3, and-both, and-left, and-right}
+use Rattle.lists.proofs.Within.{T→false}
 use Rattle.lists.proofs.Closure.{bool-same}
 use Rattle.paper.specs.declared.Sizes.{Sizes}
 use Rattle.paper.specs.declared.Place.{Place}
-use Rattle.paper.specs.Lattice.{Lattice, mixedAt, inLattice, visitable, faces, faceAt}
+use Rattle.paper.specs.Lattice.{Lattice, Face, place, mixedAt, inLattice, visitable, faces, faceAt}
 use Rattle.paper.specs.Within.{Sized, CubeIn}
-use Rattle.paper.proofs.Visits.{in-lattice, lattice-in, visitable-in, in-visitable}
-use Rattle.bits.specs.Words.{bit, word}
-use Rattle.bits.proofs.Bits.{bit-of-0, bit-word, bit-lt, word-lt}
-use Rattle.rows.specs.Rows.{HasRows, rowNo, quadAt, acrossIn, faceRow}
-use Rattle.rows.proofs.Cubes.{face-bit, face-is, high-is}
+use Rattle.paper.proofs.Visits.{in-lattice, lattice-in, visitable-in}
+use Rattle.bits.specs.Words.{bit}
+use Rattle.bits.proofs.Bits.{bit-and, bit-of-0}
+use Rattle.rows.specs.Rows.{HasBoth, rowNo, quadAt, acrossIn, faceRow}
+use Rattle.rows.proofs.Cubes.{gate-bit, face-bit, face-is, high-is}
 use Rattle.spread.specs.Ways.{isWay, nextRow, gateAt, doorAt, besideAt, words, RowIn, planOf}
 use Rattle.spread.specs.Flooded.{Empty}
 use Rattle.spread.proofs.Ways.{row-lt, words-le, into}
-use Rattle.spread.proofs.Visiting.{row-y, row-z, open-at, Joined}
+use Rattle.spread.proofs.Visiting.{row-y, row-z, open-at, same-x, Joined}
 
 module _ (z : Sizes) (p : Place) (h : CubeIn z p) where
   abbrev r : ℕ
@@ -90,53 +90,59 @@ fresh z s = record {
   none = λ r h. getD-replicate 4096 r 0 0 (omega (arith, words-le z s));
 }
 
--- a word that is shut
-bit-shut : (b : Bool) (w x : ℕ) → bit (cond b w 0) x ≡ (b && bit w x)
-bit-shut true w x = refl
-bit-shut false w x = bit-of-0 x
-
--- bit x + 1 of the first n
-bit-inner : (f : ℕ → Bool) (n x : ℕ) → bit (word f n) x ≡ (ltb x n && f x)
-bit-inner f n x = go (decLt x n)
-  where
-    go : Dec (x < n) → bit (word f n) x ≡ (ltb x n && f x)
-    go (yes l) = bit-word f n x l ∙ ap (λ (b : Bool). b && f x) (sym (lt-ltb x n l))
-    go (no l) =
-        bool-same (bit (word f n) x) (ltb x n && f x) (λ t. absurd (l (bit-lt (word f n) n x (word-lt f n) t)))
-        (λ t. absurd (l (ltb→lt x n (and-left (ltb x n) (f x) t))))
-
-module _ (L : Lattice) (s : Sized (L .size)) (rows : List ℕ) (H : HasRows L rows) where
+module _ (L : Lattice) (s : Sized (L .size)) (rows may : List ℕ) (H : HasBoth L rows may) where
   abbrev z : Sizes
   z = L .size
 
-  visitable-is : (p : Place) → visitable L p ≡ inLattice z p
-  unfolding visitable
-  visitable-is p = refl
-
   gate-is : (p : Place) → CubeIn z p
-      → bit (gateAt z rows (rowNo z p)) (suc (p .x))
+      → bit (gateAt z rows may (rowNo z p)) (suc (p .x))
       ≡ (visitable L p && visitable L (faceAt p 1 .beyond) && mixedAt L p (faceAt p 1 .corners))
   unfolding faceAt faces
   gate-is p h =
       let q = quadAt rows (z .ny) (rowNo z p) in
+      let m = getD may (rowNo z p) 0 in
       let e : suc (p .x) ≡ p .x + 1 = omega arith in
-      let m = mixedAt L p (faceAt p 1 .corners) in
-      let b = faceAt p 1 .beyond in
-      let inner : ltb (suc (p .x)) (z .nx - 1) ≡ visitable L b =
-      bool-same (ltb (suc (p .x)) (z .nx - 1)) (visitable L b)
-      (λ t. let l = ltb→lt (suc (p .x)) (z .nx - 1) t in in-visitable L b (record { x = omega arith; y = h .y; z = h .z }))
-      (λ t. lt→ltb (suc (p .x)) (z .nx - 1) (omega (arith, visitable-in L b t .x))) in
-      bit-inner (acrossIn q) (z .nx - 1) (suc (p .x))
-      ∙ (ap₂ _&&_ inner (ap (acrossIn q) e ∙ high-is L rows H p h)
-      ∙ ap (λ (c : Bool). c && visitable L b && m) (sym (T→eq (visitable L p) (in-visitable L p h))))
+      let a = H .free .at (p .y) (p .z) (p .x) (h .y) (h .z) in
+      let b = ap (bit m) e ∙ H .free .at (p .y) (p .z) (p .x + 1) (h .y) (h .z) in
+      gate-bit q m (p .x) (omega (arith, h .x, s .x-high))
+      ∙ ap₂ _&&_ (ap₂ _&&_ b a ∙ and-comm (visitable L (faceAt p 1 .beyond)) (visitable L p)) (ap (acrossIn q) e ∙ high-is L rows (H .sides) p h)
 
-  door-is : (p : Place) (k : ℕ) → CubeIn z p → k < 4 → bit (doorAt z rows (rowNo z p) k) (p .x) ≡ open-at L p (k + 2)
-  door-is p k h l =
-      let f = faceAt p (k + 2) in
-      let q = quadAt rows (z .ny) (rowNo z p) in
-      bit-shut (isWay z (rowNo z p) k) (faceRow q (k + 2)) (p .x)
-      ∙ ap₂ _&&_ (way-is z p h k l ∙ ap (λ (b : Bool). f .there && b) (sym (visitable-is (f .beyond))))
-      (face-bit q k l (p .x) ∙ face-is L rows H p h k l)
+  module _ (p : Place) (k : ℕ) (h : CubeIn z p) (l : k < 4) where
+    abbrev f : Face
+    f = faceAt p (k + 2)
+
+    abbrev m : ℕ
+    m = faceRow (quadAt rows (z .ny) (rowNo z p)) (k + 2)
+
+    mixed-is : bit m (p .x) ≡ mixedAt L p (f .corners)
+    mixed-is = face-bit (quadAt rows (z .ny) (rowNo z p)) k l (p .x) ∙ face-is L rows (H .sides) p h k l
+
+    go : (b : Bool) → isWay z (rowNo z p) k ≡ b
+        → bit (bitAnd (cond b m 0) (getD may (cond b (nextRow z (rowNo z p) k) (rowNo z p)) 0)) (p .x)
+        ≡ (f .there && visitable L (f .beyond) && mixedAt L p (f .corners))
+    go true e =
+        let t = eq→T (sym (way-is z p h k l) ∙ e) in
+        let there = and-left (f .there) (inLattice z (f .beyond)) t in
+        let i = in-lattice z (f .beyond) (and-right (f .there) (inLattice z (f .beyond)) t) in
+        let free = H .free .at (f .beyond .y) (f .beyond .z) (p .x) (i .y) (i .z) in
+        let x = same-x p k l in
+        let w = getD may (nextRow z (rowNo z p) k) 0 in
+        bit-and m w (p .x)
+        ∙ (ap₂ _&&_ mixed-is
+        (ap (λ (r : ℕ). bit (getD may r 0) (p .x)) (next-is z p h k l there) ∙ free
+        ∙ (λ i. visitable L (place (sym x i) (f .beyond .y) (f .beyond .z))))
+        ∙ (and-comm (mixedAt L p (f .corners)) (visitable L (f .beyond))
+        ∙ ap (λ (b : Bool). b && visitable L (f .beyond) && mixedAt L p (f .corners)) (sym (T→eq (f .there) there))))
+    go false e =
+        let w = getD may (rowNo z p) 0 in
+        bit-and 0 w (p .x) ∙ ap (λ (b : Bool). b && bit w (p .x)) (bit-of-0 (p .x))
+        ∙ sym (T→false _ (λ t.
+        let u = and3 (f .there) (visitable L (f .beyond)) (mixedAt L p (f .corners)) t in
+        let i = lattice-in z (f .beyond) (visitable-in L (f .beyond) (u .1)) in
+        subst T (sym (way-is z p h k l) ∙ e) (and-both (f .there) (inLattice z (f .beyond)) (u .0) i)))
+
+    door-is : bit (doorAt z rows may (rowNo z p) k) (p .x) ≡ open-at L p (k + 2)
+    door-is = go (isWay z (rowNo z p) k) refl
 
   beside-is : (p : Place) (k : ℕ) → CubeIn z p → k < 4 → T (open-at L p (k + 2))
       → besideAt z rows (rowNo z p) k ≡ rowNo z (faceAt p (k + 2) .beyond)
@@ -147,7 +153,7 @@ module _ (L : Lattice) (s : Sized (L .size)) (rows : List ℕ) (H : HasRows L ro
       let e : isWay z (rowNo z p) k ≡ true = way-is z p h k l ∙ T→eq _ (and-both (f .there) (inLattice z (f .beyond)) (w .0) i) in
       ap (λ (b : Bool). cond b (nextRow z (rowNo z p) k) (rowNo z p)) e ∙ next-is z p h k l (w .0)
 
-  pub joined : Joined L (planOf z rows)
+  pub joined : Joined L (planOf z rows may)
   joined = record {
     gates = gate-is;
     doors = door-is;

@@ -13,20 +13,20 @@ use Rattle.paper.specs.Within.{Sized}
 use Rattle.rows.specs.declared.Quad.{Quad}
 use Rattle.bits.specs.Words.{less}
 use Rattle.bits.proofs.Bits.{shifted-one}
-use Rattle.rows.specs.Rows.{quadAt}
+use Rattle.rows.specs.Rows.{quadAt, gateRow}
 use Rattle.spread.specs.Along.{Filled}
 use Rattle.spread.specs.Plan.{Plan}
 use Rattle.spread.specs.Flow.{Flow, flow, wait, sends, Roomy}
-use Rattle.spread.specs.Ways.{gateBy, gateAt, doorBy, besideBy, doorAt, besideAt, words, rowsOf, isRow, RowIn, planOf}
+use Rattle.spread.specs.Ways.{gateAt, doorBy, besideBy, doorAt, besideAt, words, rowsOf, isRow, RowIn, planOf}
 use Rattle.spread.specs.Flooded.{Empty, cell, room, Flooded}
 use Rattle.spread.proofs.Laws.{lit, blank-le, Kept, wait-kept}
 use Rattle.spread.proofs.Going.{Ground, Turn, turn-start, turn-row, turn-roomy, turn-count, turn-bound, turn-less, turn}
 use Rattle.spread.proofs.Finish.{Reached, ground, finished, emptied}
 use Rattle.spread.proofs.Ways.{row-lt, row-on, row-test, row-in, rows-count, into, words-le}
 
-module _ (z : Sizes) (rows : List ℕ) (q x : ℕ) where
+module _ (z : Sizes) (rows may : List ℕ) (q x : ℕ) where
   abbrev P : Plan
-  P = planOf z rows
+  P = planOf z rows may
 
   abbrev Reaches : ℕ → ℕ → Type 0
   Reaches = Reached P q x
@@ -73,12 +73,12 @@ module _ (z : Sizes) (rows : List ℕ) (q x : ℕ) where
       at-row = row-in z at (turn-row P Reaches grounded q x vis₀ due₀ w₀ vis due w h i seen hx e u)
 
       -- the four words around it, its gates, and what they lead to
-      module _ (four : Quad) (is : four ≡ quadAt rows (z .ny) at) (gates full : ℕ) (by : gates ≡ gateBy z four) (l : full < 2 ^ 64)
+      module _ (four : Quad) (is : four ≡ quadAt rows (z .ny) at) (gates full : ℕ) (by : gates ≡ gateRow four (getD may at 0)) (l : full < 2 ^ 64)
           (F : Filled (getD due at 0) gates full) where
-        gate-is : gates ≡ gateAt z rows at
-        gate-is = by ∙ ap (gateBy z) is
+        gate-is : gates ≡ gateAt z rows may at
+        gate-is = by ∙ ap (λ (f : Quad). gateRow f (getD may at 0)) is
 
-        F′ : Filled (getD due at 0) (gateAt z rows at) full
+        F′ : Filled (getD due at 0) (gateAt z rows may at) full
         F′ = subst (λ (g : ℕ). Filled (getD due at 0) g full) gate-is F
 
         abbrev new : ℕ
@@ -103,9 +103,9 @@ module _ (z : Sizes) (rows : List ℕ) (q x : ℕ) where
               words-le z sized,
             )
 
-        module _ (t : Flow) (s : t ≡ sends grown (doorBy z four at) (besideBy z four at) new 4 popped) where
-          s′ : t ≡ sends grown (doorAt z rows at) (besideAt z rows at) new 4 popped
-          s′ = s ∙ ap (λ (f : Quad). sends grown (doorBy z f at) (besideBy z f at) new 4 popped) is
+        module _ (t : Flow) (s : t ≡ sends grown (doorBy z may four at) (besideBy z four at) new 4 popped) where
+          s′ : t ≡ sends grown (doorAt z rows may at) (besideAt z rows at) new 4 popped
+          s′ = s ∙ ap (λ (f : Quad). sends grown (doorBy z may f at) (besideBy z f at) new 4 popped) is
 
           pub less-left : 5 * (64 * words z - lit (words z) grown) + t .height < 5 * (64 * words z - lit (words z) vis) + h
           less-left =

@@ -113,7 +113,7 @@ pub record Joined (L : Lattice) (P : Plan) : Type 0 where
   pub within : (y z : ℕ) → y < L .size .ny → z < L .size .nz → y + L .size .ny * z < P .size
   pub into : (r k : ℕ) → r < P .size → k < 4 → P .beside r k < P .size
 
-same-x : (p : Place) (k : ℕ) → k < 4 → faceAt p (k + 2) .beyond .x ≡ p .x
+pub same-x : (p : Place) (k : ℕ) → k < 4 → faceAt p (k + 2) .beyond .x ≡ p .x
 unfolding faceAt faces
 same-x p zero l = refl
 same-x p (suc zero) l = refl

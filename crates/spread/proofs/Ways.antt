@@ -38,10 +38,11 @@ pub way-at : (z : Sizes) (q : Quad) (r : ℕ) {k j m : ℕ} {w : Out} → w ≡ 
 way-at z q r e f d = e ∙ (λ i. wayBy (isWay z r (sym d i)) (nextRow z r (sym d i)) r (f i))
 
 -- a send by a way
-pub by-way : (vis : List ℕ) (f : ℕ) (t : Flow) {u : Flow} {v w : Out} → u
-    ≡ wait (v .to) (less (bitAnd f (v .door)) (getD vis (v .to) 0)) t → v ≡ w
-    → u ≡ wait (w .to) (less (bitAnd f (w .door)) (getD vis (w .to) 0)) t
-by-way vis f t e d = e ∙ ap (λ (o : Out). wait (o .to) (less (bitAnd f (o .door)) (getD vis (o .to) 0)) t) d
+pub by-way : (vis may : List ℕ) (f : ℕ) (t : Flow) {u : Flow} {v w : Out} → u
+    ≡ wait (v .to) (less (bitAnd f (bitAnd (v .door) (getD may (v .to) 0))) (getD vis (v .to) 0)) t → v ≡ w
+    → u ≡ wait (w .to) (less (bitAnd f (bitAnd (w .door) (getD may (w .to) 0))) (getD vis (w .to) 0)) t
+by-way vis may f t e d =
+    e ∙ ap (λ (o : Out). wait (o .to) (less (bitAnd f (bitAnd (o .door) (getD may (o .to) 0))) (getD vis (o .to) 0)) t) d
 
 -- ── ways lead to rows ──
 

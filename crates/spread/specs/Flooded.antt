@@ -3,16 +3,16 @@ use mathlib.Core.Path.{_≡_}
 use mathlib.Core.Bool.{_&&_}
 use mathlib.Core.List.{List, [], _++_}
 use Prim.Native.Nat.{ℕ, suc, _+_, _-_, _*_, _/_, _%_, _^_, _≤_, _<_}
-use lib.Dec.{ltb}
+use lib.Dec.{T, ltb}
 use lib.IntN.{ℤ}
 use lib.ListN.{length, getD}
 use Rattle.lists.specs.Lists.{range, consIf, each, Beyond}
 use Rattle.lists.specs.Reach.{Reach, reached}
 use Rattle.paper.specs.declared.Sizes.{Sizes}
-use Rattle.paper.specs.Lattice.{Lattice, lattice, cubes, visited}
+use Rattle.paper.specs.Lattice.{Lattice, lattice, cubes, cubeAt, visitable, visited}
 use Rattle.paper.specs.Room.{needed}
 use Rattle.bits.specs.Words.{bit, On}
-use Rattle.rows.specs.Rows.{HasRows, HasCubes}
+use Rattle.rows.specs.Rows.{HasRows, HasBoth, HasCubes}
 use Rattle.spread.specs.Plan.{Plan}
 use Rattle.spread.specs.Ways.{words, rowsOf}
 
@@ -63,9 +63,10 @@ pub record Visits (L : Lattice) (start : ℕ) (vis : List ℕ) (count : ℕ) : T
   pub cubes : HasCubes (L .size) (visited L start) vis
   pub number : count ≡ length (visited L start)
 
--- a flood of any lattice that has these rows of sides: nothing changes past the words and the rows of cubes
-pub record Spreads (z : Sizes) (rows : List ℕ) (start : ℕ) (before after : Room) (count : ℕ) : Type 0 where
-  pub visits : (s : List ℤ) → HasRows (lattice z s) rows → Visits (lattice z s) start (after .vis) count
+-- a flood of any lattice that has these rows, of sides and of cubes that may be visited, from a start that may be: nothing changes past the
+-- words and the rows of cubes
+pub record Spreads (z : Sizes) (rows may : List ℕ) (start : ℕ) (before after : Room) (count : ℕ) : Type 0 where
+  pub visits : (s : List ℤ) → let L = lattice z s in HasBoth L rows may → T (visitable L (cubeAt z start)) → Visits L start (after .vis) count
   pub on-vis : Beyond (words z) (before .vis) (after .vis)
   pub on-waiting : Beyond (rowsOf z) (before .waiting) (after .waiting)
 
@@ -80,9 +81,9 @@ pub record Standing (L : Lattice) (rows vis : List ℕ) : Type 0 where
   pub start : ℕ
   pub stands : Stands L start rows vis
 
--- the cubes visited from cube k, of any lattice that has these rows of sides, and how many they are; no more than the needed front of the
--- waiting list changes
-pub record Finds (z : Sizes) (rows : List ℕ) (k : ℕ) (vis waiting waiting′ : List ℕ) (count : ℕ) : Type 0 where
-  pub stands : (s : List ℤ) → HasRows (lattice z s) rows → Stands (lattice z s) k rows vis
-  pub number : (s : List ℤ) → HasRows (lattice z s) rows → count ≡ length (visited (lattice z s) k)
+-- the cubes visited from cube k, where it may be visited, of any lattice that has these rows, and how many they are; no more than the needed
+-- front of the waiting list changes
+pub record Finds (z : Sizes) (rows may : List ℕ) (k : ℕ) (vis waiting waiting′ : List ℕ) (count : ℕ) : Type 0 where
+  pub stands : (s : List ℤ) → let L = lattice z s in HasBoth L rows may → T (visitable L (cubeAt z k)) → Stands L k rows vis
+  pub number : (s : List ℤ) → let L = lattice z s in HasBoth L rows may → T (visitable L (cubeAt z k)) → count ≡ length (visited L k)
   pub beyond : Beyond (needed z) waiting waiting′

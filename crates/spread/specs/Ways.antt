@@ -1,22 +1,20 @@
--- Gates and doors of rows of cubes, made from rows of sides: row r = y + ny·z of cubes lies between the words r, r + 1, r + ny and
--- r + ny + 1. Assumes nothing.
+-- Gates and doors of rows of cubes, made from rows of sides and of the cubes that may be visited: row r = y + ny·z of cubes lies between the
+-- words r, r + 1, r + ny and r + ny + 1. Assumes nothing.
 use mathlib.Core.Bool.{Bool, cond, _&&_}
 use mathlib.Core.List.{List}
 use Prim.Native.Nat.{ℕ, zero, suc, _+_, _-_, _*_, _/_, _%_, _<_}
+use lib.Bits.{bitAnd}
 use lib.Dec.{ltb}
+use lib.ListN.{getD}
 use Rattle.paper.specs.declared.Sizes.{Sizes}
-use Rattle.bits.specs.Words.{word}
 use Rattle.rows.specs.declared.Quad.{Quad}
-use Rattle.rows.specs.Rows.{quadAt, acrossIn, faceRow}
+use Rattle.rows.specs.Rows.{quadAt, gateRow, faceRow}
 use Rattle.spread.specs.Plan.{Plan}
 use Rattle.spread.specs.declared.Out.{Out}
 
--- the places x at which the face between cubes x - 1 and x is mixed
-abbrev pub gateBy : Sizes → Quad → ℕ
-gateBy z q = word (acrossIn q) (z .nx - 1)
-
-abbrev pub gateAt : Sizes → List ℕ → ℕ → ℕ
-gateAt z rows r = gateBy z (quadAt rows (z .ny) r)
+-- the places x at which the face between cubes x - 1 and x is mixed, and both may be visited
+abbrev pub gateAt : Sizes → List ℕ → List ℕ → ℕ → ℕ
+gateAt z rows may r = gateRow (quadAt rows (z .ny) r) (getD may r 0)
 
 -- whether there is a way out of row r at the low and the high y end and at the low and the high z end, and the row that it leads to
 unfoldable pub isWay : Sizes → ℕ → ℕ → Bool
@@ -39,17 +37,18 @@ wayBy there to r door = record { to = cond there to r; door = cond there door 0 
 abbrev pub wayAt : Sizes → Quad → ℕ → ℕ → Out
 wayAt z q r k = wayBy (isWay z r k) (nextRow z r k) r (faceRow q (k + 2))
 
-abbrev pub doorBy : Sizes → Quad → ℕ → ℕ → ℕ
-doorBy z q r k = wayAt z q r k .door
-
+-- where it leads, and its door to the cubes that may be visited there
 abbrev pub besideBy : Sizes → Quad → ℕ → ℕ → ℕ
 besideBy z q r k = wayAt z q r k .to
 
-abbrev pub doorAt : Sizes → List ℕ → ℕ → ℕ → ℕ
-doorAt z rows r = doorBy z (quadAt rows (z .ny) r) r
+abbrev pub doorBy : Sizes → List ℕ → Quad → ℕ → ℕ → ℕ
+doorBy z may q r k = bitAnd (wayAt z q r k .door) (getD may (besideBy z q r k) 0)
 
 abbrev pub besideAt : Sizes → List ℕ → ℕ → ℕ → ℕ
 besideAt z rows r = besideBy z (quadAt rows (z .ny) r) r
+
+abbrev pub doorAt : Sizes → List ℕ → List ℕ → ℕ → ℕ → ℕ
+doorAt z rows may r = doorBy z may (quadAt rows (z .ny) r) r
 
 -- how many words there are
 abbrev pub words : Sizes → ℕ
@@ -68,6 +67,12 @@ pub record RowIn (z : Sizes) (r : ℕ) : Type 0 where
   pub inner : r % z .ny + 1 < z .ny
   pub outer : r / z .ny + 1 < z .nz
 
-abbrev pub planOf : Sizes → List ℕ → Plan
-planOf z rows =
-    record { size = words z; room = rowsOf z; isRow = isRow z; gate = gateAt z rows; door = doorAt z rows; beside = besideAt z rows }
+abbrev pub planOf : Sizes → List ℕ → List ℕ → Plan
+planOf z rows may = record {
+  size = words z;
+  room = rowsOf z;
+  isRow = isRow z;
+  gate = gateAt z rows may;
+  door = doorAt z rows may;
+  beside = besideAt z rows;
+}

@@ -12,21 +12,13 @@ ghost use Rattle.paper.specs.Within.{Sized, CubeIn};
 ghost use Rattle.bits.specs.Words.{less};
 ghost use Rattle.spread.specs.Along.{Filled};
 ghost use Rattle.spread.specs.Flow.{flow, wait, sends, Roomy};
-ghost use Rattle.spread.specs.Ways.{gateBy, wayBy, wayAt, doorBy, besideBy, words, rowsOf, isRow, RowIn, planOf};
+ghost use Rattle.spread.specs.Ways.{wayBy, wayAt, doorBy, besideBy, words, rowsOf, isRow, RowIn, planOf};
 ghost use Rattle.spread.specs.Flooded.{room, Empty, cell, Flooded, Spreads, Finds};
 
 // A way out of a row of cubes.
 pub struct Out {
     pub to: usize,
     pub door: u64,
-}
-
-// The gates between the cubes of a row.
-fn gate(z: Sizes, q: Quad) -> u64
-    requires { ⌜ Sized z ⌝ }
-    ensures { λ r. ⌜ r ≡ gateBy z q ⌝ }
-{
-    rows::gate_row(q, z.nx - 1)
 }
 
 // The way to the row d rows before r, where there is one.
@@ -121,10 +113,11 @@ fn way(z: Sizes, q: Quad, r: usize, k: usize) -> Out
     fore(r / z.ny + 2 < z.nz, r, z.ny, m)
 }
 
-// The places f of row r pass the doors of the row.
+// The places f of row r pass the doors of the row, to cubes that may be visited.
 fn pass_doors(
     z: Sizes,
     q: Quad,
+    may: &[u64],
     vis: &[u64],
     due: &mut [u64],
     waiting: &mut [u32],
@@ -132,18 +125,20 @@ fn pass_doors(
     r: usize,
     f: u64,
 ) -> usize
-    requires { ⌜ Sized z × RowIn z r × (words z ≤ length (now vis)) ⌝ }
+    requires { ⌜ Sized z × RowIn z r × (words z ≤ length (now vis)) × (words z ≤ length (now may)) ⌝ }
     requires { ⌜ Roomy (words z) (rowsOf z) (isRow z) (flow (now due) (now waiting) height) ⌝ }
     ensures { λ k.
         let before = flow (now (due .entry)) (now (waiting .entry)) height in
         let after = flow (now (due .exit)) (now (waiting .exit)) k in
-        ⌜ after ≡ sends (now (vis .entry)) (doorBy z q r) (besideBy z q r) f 4 before ⌝ }
+        ⌜ after ≡ sends (now (vis .entry)) (doorBy z (now (may .entry)) q r) (besideBy z q r) f 4 before ⌝ }
 {
     let mut h = height;
     let mut k = 0;
     while k < 4 {
         let w = way(z, q, r, k);
-        h = send(vis, due, waiting, h, w.to, f & w.door);
+        let to = w.to;
+        let m = may[to];
+        h = send(vis, due, waiting, h, to, f & (w.door & m));
         k += 1;
     }
     h
@@ -152,6 +147,7 @@ fn pass_doors(
 // The cubes that are reached from cube x of a row are visited; how many they are is returned.
 fn flood(
     rows: &[u64],
+    may: &[u64],
     z: Sizes,
     row: usize,
     x: usize,
@@ -159,12 +155,12 @@ fn flood(
     due: &mut [u64],
     waiting: &mut [u32],
 ) -> usize
-    requires { ⌜ Sized z × RowIn z row × (x < 64) × (words z ≤ length (now rows)) ⌝ }
+    requires { ⌜ Sized z × RowIn z row × (x < 64) × (words z ≤ length (now rows)) × (words z ≤ length (now may)) ⌝ }
     requires { ⌜ Empty (words z) (now vis) × Empty (words z) (now due) × (rowsOf z ≤ length (now waiting)) ⌝ }
     ensures { λ r.
         let before = room (now (vis .entry)) (now (waiting .entry)) in
         let after = room (now (vis .exit)) (now (waiting .exit)) in
-        ⌜ Flooded (planOf z (now (rows .entry))) (cell row x) before after r × Empty (words z) (now (due .exit)) ⌝ }
+        ⌜ Flooded (planOf z (now (rows .entry)) (now (may .entry))) (cell row x) before after r × Empty (words z) (now (due .exit)) ⌝ }
 {
     let mut h = wait_row(due, waiting, 0, row, 1 << x);
     let mut seen = 0;
@@ -172,29 +168,38 @@ fn flood(
         h -= 1;
         let r = waiting[h] as usize;
         let q = rows::quad_at(rows, z.ny, r);
+        let m = may[r];
         let v = vis[r];
-        let full = filled(due[r], gate(z, q));
+        let full = filled(due[r], rows::gate_row(q, m));
         let f = full & !v;
         due[r] = 0;
         vis[r] = v | f;
         seen += bits::ones(f);
-        h = pass_doors(z, q, vis, due, waiting, h, r, f);
+        h = pass_doors(z, q, may, vis, due, waiting, h, r, f);
     }
     seen
 }
 
 // The visited cubes from the cube at a place; how many they are is returned.
-pub fn flood_from(rows: &[u64], z: Sizes, at: Place, vis: &mut [u64], waiting: &mut [u32]) -> usize
-    requires { ⌜ Sized z × CubeIn z at × (words z ≤ length (now rows)) ⌝ }
+pub fn flood_from(
+    rows: &[u64],
+    may: &[u64],
+    z: Sizes,
+    at: Place,
+    vis: &mut [u64],
+    waiting: &mut [u32],
+) -> usize
+    requires { ⌜ Sized z × CubeIn z at × (words z ≤ length (now rows)) × (words z ≤ length (now may)) ⌝ }
     requires { ⌜ Empty (words z) (now vis) × (rowsOf z ≤ length (now waiting)) ⌝ }
     ensures { λ r.
         let before = room (now (vis .entry)) (now (waiting .entry)) in
         let after = room (now (vis .exit)) (now (waiting .exit)) in
-        ⌜ Spreads z (now (rows .entry)) (cubeNo z at) before after r ⌝ }
+        ⌜ Spreads z (now (rows .entry)) (now (may .entry)) (cubeNo z at) before after r ⌝ }
 {
     let mut due = [0u64; 4096];
     flood(
         rows,
+        may,
         z,
         at.y + z.ny * at.z,
         at.x,
@@ -205,11 +210,19 @@ pub fn flood_from(rows: &[u64], z: Sizes, at: Place, vis: &mut [u64], waiting: &
 }
 
 // The visited cubes from cube k; how many they are is returned.
-pub fn visit(rows: &[u64], z: Sizes, k: usize, vis: &mut [u64], waiting: &mut [u32]) -> usize
-    requires { ⌜ Sized z × (k < cubes z) × (words z ≤ length (now rows)) ⌝ }
+pub fn visit(
+    rows: &[u64],
+    may: &[u64],
+    z: Sizes,
+    k: usize,
+    vis: &mut [u64],
+    waiting: &mut [u32],
+) -> usize
+    requires { ⌜ Sized z × (k < cubes z) × (words z ≤ length (now rows)) × (words z ≤ length (now may)) ⌝ }
     requires { ⌜ Empty (words z) (now vis) × (needed z ≤ length (now waiting)) ⌝ }
-    ensures { λ r. ⌜ Finds z (now (rows .entry)) k (now (vis .exit)) (now (waiting .entry)) (now (waiting .exit)) r ⌝ }
+    ensures { λ r.
+        ⌜ Finds z (now (rows .entry)) (now (may .entry)) k (now (vis .exit)) (now (waiting .entry)) (now (waiting .exit)) r ⌝ }
 {
     let at = lattice::cube_at(z, k);
-    flood_from(rows, z, at, vis, waiting)
+    flood_from(rows, may, z, at, vis, waiting)
 }

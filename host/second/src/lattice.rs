@@ -1,4 +1,7 @@
-//! The lattice: points, samples, sides, crossed cubes and mixed faces.
+//! The lattice: points, samples, sides, visitable and crossed cubes, and mixed faces.
+
+/// What the scanner writes where it sees nothing (document 02 (iii)): no sample.
+pub const FILL: i64 = -32_768;
 
 /// A sample, or the cube that has it as its lowest corner.
 /// Points compare by z, then y, then x, which is the order of their numbers.
@@ -100,8 +103,14 @@ impl<'a> Lattice<'a> {
         }
     }
 
+    /// "Visitable means free of the fill": a cube of the lattice that has no corner there.
+    pub fn visitable(&self, cube: Point) -> bool {
+        self.is_cube(cube) && corners().all(|c| self.sample(cube.plus(c)) != FILL)
+    }
+
+    /// "A cube with such a corner counts as not crossed."
     pub fn crossed(&self, cube: Point) -> bool {
-        self.mixed(corners().map(|c| cube.plus(c)))
+        self.visitable(cube) && self.mixed(corners().map(|c| cube.plus(c)))
     }
 
     /// Whether the face between a cube and its neighbour one step away has corners on both sides:

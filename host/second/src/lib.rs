@@ -1,4 +1,5 @@
-//! A second mesher, writer, reader and checker, written from document 01 alone, and the same of binary STL from document 02 (i).
+//! A second mesher, writer, reader and checker, written from document 01 and document 02 (iii) alone, and the same of binary STL
+//! from document 02 (i).
 //!
 //! It works on coordinates, sets and maps. The proved code works on lent slices, edge slots and cube words;
 //! the two share no table and no trick, so that one can be held against the other. The tool does not use it.
@@ -16,6 +17,6 @@ pub mod stl;
 pub use build::{build, Built, Volume, Work};
 pub use check::{check, Verdict};
 pub use file::{parse, read, serialize, write, Content, Got, Wrote};
-pub use lattice::{Lattice, Point};
+pub use lattice::{Lattice, Point, FILL};
 pub use list::{listing, volume};
 pub use sheet::{crossing, Edge, Sheet};

@@ -157,14 +157,14 @@ fn narrow(value: i64) -> i32 {
     i32::try_from(value).expect("edge numbers and coordinates of a lattice to 64 fit 32 bits")
 }
 
-/// The start cube and every cube reached from it across mixed faces.
+/// The start cube and every visitable cube reached from it across mixed faces.
 fn reached(lattice: &Lattice, start: Point) -> BTreeSet<Point> {
     let mut seen = BTreeSet::from([start]);
     let mut border = vec![start];
     while let Some(cube) = border.pop() {
         for step in STEPS {
             let next = cube.plus(step);
-            if lattice.is_cube(next) && lattice.mixed_face(cube, step) && seen.insert(next) {
+            if lattice.visitable(next) && lattice.mixed_face(cube, step) && seen.insert(next) {
                 border.push(next);
             }
         }

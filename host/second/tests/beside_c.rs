@@ -51,6 +51,44 @@ fn small_lattices() {
     }
 }
 
+/// The same with fill: grains, a wall, or all beyond a distance from the middle.
+#[test]
+fn small_lattices_with_fill() {
+    let mut n = Numbers(0x2545f4914f6cdd1d);
+    for _ in 0..10_000 {
+        let sizes = [(); 3].map(|_| 2 + n.below(6) as u16);
+        let [nx, ny, nz] = sizes.map(usize::from);
+        let (manner, rare) = (n.below(3), 2 + n.below(30));
+        let (axis, at) = (n.below(3) as usize, n.below(8) as usize);
+        let far = 1 + n.below(60);
+        let mut sample = |i: usize| {
+            let place = [i % nx, i / nx % ny, i / nx / ny];
+            let filled = match manner {
+                0 => n.below(rare) == 0,
+                1 => place[axis] == at && n.below(8) != 0,
+                _ => (0..3).map(|k| (2 * place[k] as i64 + 1 - i64::from(sizes[k])).pow(2)).sum::<i64>() > far as i64,
+            };
+            if filled {
+                i16::MIN
+            } else {
+                n.below(7) as i16 - 3
+            }
+        };
+        let samples: Vec<i16> = (0..nx * ny * nz).map(&mut sample).collect();
+        let start = if n.below(2) == 0 { None } else { Some(sizes.map(|axis| n.below(u64::from(axis)) as u16)) };
+        both(sizes, start, &samples, [28 * samples.len(), 36 * samples.len()]);
+    }
+}
+
+#[test]
+fn a_full_lattice_of_noise_in_a_ring() {
+    let mut n = Numbers(78);
+    let far = |i: usize| (2 * (i % 64) as i64 - 63).pow(2) + (2 * (i / 64 % 64) as i64 - 63).pow(2) > 62 * 62;
+    let sample = |i: usize| if far(i) { i16::MIN } else { n.next() as i16 };
+    let samples: Vec<i16> = (0..64 * 64 * 64).map(sample).collect();
+    both([64, 64, 64], None, &samples, [4 * 7 * 64 * 64 * 64, 3 * 12 * 63 * 63 * 63]);
+}
+
 #[test]
 fn a_full_lattice_of_noise() {
     let mut n = Numbers(77);

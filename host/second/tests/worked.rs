@@ -1,6 +1,8 @@
-//! Document 01's sheets worked by hand, on the second mesher.
+//! Document 01's sheets worked by hand, and those of document 02 (iii), on the second mesher.
 
-use second::{build, check, crossing, listing, parse, read, serialize, write, Built, Content, Verdict, Volume, Work};
+use second::{
+    build, check, crossing, listing, parse, read, serialize, write, Built, Content, Verdict, Volume, Work, FILL,
+};
 
 const ROOM: usize = 64 * 64 * 64;
 
@@ -42,6 +44,23 @@ fn with_air(sizes: [usize; 3], air: &[[usize; 3]]) -> Vec<i16> {
         samples[x + sizes[0] * (y + sizes[1] * z)] = 1;
     }
     samples
+}
+
+/// The same with the fill at some samples.
+fn with_fill(sizes: [usize; 3], air: &[[usize; 3]], fill: &[[usize; 3]]) -> Vec<i16> {
+    let mut samples = with_air(sizes, air);
+    for [x, y, z] in fill {
+        samples[x + sizes[0] * (y + sizes[1] * z)] = FILL as i16;
+    }
+    samples
+}
+
+/// The edges of the vertices from a start.
+fn edges(sizes: [usize; 3], samples: &[i16], start: [usize; 3]) -> Vec<i32> {
+    let (mut vertices, mut triangles) = (vec![0; 4 * ROOM], vec![0; 12 * ROOM]);
+    let volume = Volume { sizes, start: Some(start), samples };
+    let built = build(volume, &mut vertices, &mut triangles, &mut Room::new().lend());
+    vertices.chunks_exact(4).take(built.vertices).map(|record| record[0]).collect()
 }
 
 const LISTED: [i16; 8] = [3, -1, -1, -1, -1, -1, -1, -1];
@@ -148,6 +167,60 @@ fn counts_by_hand() {
     assert_eq!(counts([2, 2, 2], &[0; 9], None, [9, 9]), [2, 0, 0, 0]);
 }
 
+#[test]
+fn fill_at_a_corner() {
+    let sizes = [3, 3, 3];
+    let samples = with_fill(sizes, &[[1, 1, 1]], &[[0, 0, 0]]);
+    assert_eq!(counts(sizes, &samples, Some([0, 0, 0]), [14, 24]), [5, 0, 0, 0]);
+    for n in 1..8 {
+        assert_eq!(counts(sizes, &samples, Some([n % 2, n / 2 % 2, n / 4]), [14, 23]), [0, 14, 23, 7]);
+    }
+    assert_eq!(counts(sizes, &samples, None, [14, 23]), [0, 14, 23, 7]);
+    assert_eq!(counts(sizes, &samples, None, [13, 23]), [6, 14, 23, 7]);
+    assert_eq!(counts(sizes, &samples, None, [14, 22]), [7, 14, 23, 7]);
+    // the fill in place of the air: nothing is crossed
+    assert_eq!(counts(sizes, &with_fill(sizes, &[], &[[1, 1, 1]]), None, [14, 24]), [5, 0, 0, 0]);
+    assert_eq!(counts(sizes, &samples, Some([2, 0, 0]), [14, 23]), [4, 0, 0, 0]);
+}
+
+#[test]
+fn pieces_parted_by_fill_share_an_edge() {
+    let sizes = [3, 3, 2];
+    let samples = with_fill(sizes, &[[1, 1, 0]], &[[0, 0, 0], [2, 2, 0]]);
+    for start in [[1, 0, 0], [0, 1, 0]] {
+        assert_eq!(counts(sizes, &samples, Some(start), [5, 3]), [0, 5, 3, 1]);
+        assert!(edges(sizes, &samples, start).contains(&30));
+    }
+    assert_eq!(edges(sizes, &samples, [1, 0, 0]), [8, 10, 12, 28, 30]);
+    assert_eq!(edges(sizes, &samples, [0, 1, 0]), [21, 25, 26, 29, 30]);
+    for start in [[0, 0, 0], [1, 1, 0]] {
+        assert_eq!(counts(sizes, &samples, Some(start), [5, 3]), [5, 0, 0, 0]);
+    }
+    assert_eq!(counts(sizes, &samples, None, [5, 3]), [0, 5, 3, 1]);
+}
+
+#[test]
+fn every_corner_of_a_cube_is_looked_at() {
+    let air = |corner: usize| [corner % 2, corner / 2 % 2, corner / 4];
+    for filled in 0..8 {
+        for aired in (0..8).filter(|corner| *corner != filled) {
+            let samples = with_fill([2, 2, 2], &[air(aired)], &[air(filled)]);
+            for start in [None, Some([0, 0, 0])] {
+                assert_eq!(counts([2, 2, 2], &samples, start, [9, 9]), [5, 0, 0, 0]);
+            }
+        }
+    }
+    assert_eq!(counts([2, 2, 2], &[FILL as i16; 8], None, [9, 9]), [5, 0, 0, 0]);
+}
+
+#[test]
+fn one_above_the_fill_is_a_sample() {
+    let mut samples = [-32_767; 8];
+    samples[0] = 1;
+    assert_eq!(counts([2, 2, 2], &samples, None, [3, 1]), [0, 3, 1, 1]);
+}
+
+/// Those with p = -32768 are true of the formula only: no such sample is an end of a sheet's edge.
 #[test]
 fn values_of_t() {
     let worked = [(0, 1, 0), (-1, 32767, 2), (-2, 1, 43690), (-32768, 32767, 32768), (-32768, 1, 65534)];

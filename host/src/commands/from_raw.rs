@@ -7,7 +7,7 @@ use crate::failure::{escaped, shown, Failure};
 use crate::files;
 use crate::room;
 use crate::streams::{Ended, Streams};
-use crate::volume::Volume;
+use crate::volume::{Volume, FILL};
 use std::ffi::OsStr;
 use std::fs::File;
 use std::io;
@@ -21,6 +21,11 @@ const TYPE: Opt = Opt::needed("--type", "u8|u16|i16", "what a grey is: 8 or 16 b
 const LEVEL: Opt =
     Opt::needed("--level", "G", "the grey between air and solid: a darker voxel is air, any other is solid");
 const BIG: Opt = Opt::switch("--big-endian", "the greys' high byte comes first");
+const UNSEEN: Opt = Opt::with(
+    "--fill",
+    "G",
+    "the grey that the scanner writes where it sees nothing: such a voxel is no sample, and becomes the fill, -32768",
+);
 const BOX: Opt = Opt::with(
     "--box",
     "X,Y,Z,NX,NY,NZ",
@@ -31,10 +36,11 @@ pub static COMMAND: Command = Command {
     name: "from-raw",
     brief: "make a volume from greys without a header",
     names: &["RAW", "VOLUME"],
-    options: &[SIZES, TYPE, LEVEL, BIG, BOX, FORCE],
+    options: &[SIZES, TYPE, LEVEL, UNSEEN, BIG, BOX, FORCE],
     text: "\
 Makes a volume file from a file of greys without a header. A sample is the level minus the grey, held to -32767 .. 32767, so \
-a voxel darker than the level is air and any other is solid. Prints a line with the sizes and how many samples are air.
+a voxel darker than the level is air and any other is solid. With --fill a voxel of exactly that grey is neither: it becomes \
+-32768, which is no sample. Prints a line with the sizes and how many samples are air, and with --fill how many are fill.
 
 Whatever does not fit (the length of the file, the type, the level, an axis) is refused in words, and nothing is written.",
     run,
@@ -92,6 +98,20 @@ struct Asked {
     grey: Grey,
     big: bool,
     level: i32,
+    fill: Option<i32>,
+}
+
+/// A grey of the type that an option names.
+fn grey_of(given: &Given, option: &Opt, grey: Grey) -> Result<i32, Failure> {
+    let text = given.get(option).unwrap_or_default();
+    let Some(value) = text.to_str().and_then(|text| text.parse::<i32>().ok()) else {
+        return usage(format!("{} takes a grey: a whole number", option.name));
+    };
+    let (least, greatest) = grey.range();
+    if value < least || value > greatest {
+        return usage(format!("{} {value} is no grey of this type, which has {least} to {greatest}", option.name));
+    }
+    Ok(value)
 }
 
 impl Asked {
@@ -105,13 +125,8 @@ impl Asked {
         if big && grey == Grey::U8 {
             return usage("--big-endian says nothing about u8: leave it out, or name another --type");
         }
-        let Some(level) = text(&LEVEL).to_str().and_then(|text| text.parse::<i32>().ok()) else {
-            return usage("--level takes a grey: a whole number");
-        };
-        let (least, greatest) = grey.range();
-        if level < least || level > greatest {
-            return usage(format!("--level {level} is no grey of this type, which has {least} to {greatest}"));
-        }
+        let level = grey_of(given, &LEVEL, grey)?;
+        let fill = if given.has(&UNSEEN) { Some(grey_of(given, &UNSEEN, grey)?) } else { None };
         let (from, sizes) = match given.get(&BOX) {
             None => ([0; 3], all),
             Some(text) => part(text.as_bytes(), all)?,
@@ -124,7 +139,7 @@ impl Asked {
                 "{sizes} is no volume: an axis has 2 to 64 samples; --box takes a part of a larger scan"
             ));
         }
-        Ok(Asked { all, from, sizes, grey, big, level })
+        Ok(Asked { all, from, sizes, grey, big, level, fill })
     }
 
     /// How many bytes the whole has; nothing where that is beyond counting.
@@ -199,18 +214,31 @@ fn run(given: &Given, streams: &mut Streams) -> Result<Ended, Failure> {
     if length != wanted {
         return Err(Failure::File(misfit(&asked, from, wanted, length)));
     }
-    let volume = taken(&asked, &raw).map_err(|error| Failure::reading(from, &error))?;
+    let (volume, unnamed) = taken(&asked, &raw).map_err(|error| Failure::reading(from, &error))?;
     files::put(to, &volume.file(), given.has(&FORCE), streams)?;
     let air = volume.samples.iter().filter(|sample| **sample > 0).count();
+    let filled = volume.samples.iter().filter(|sample| **sample == FILL).count();
     let [nx, ny, nz] = asked.sizes;
-    let line = format!("{nx} {ny} {nz} samples, {air} of {} are air", volume.samples.len());
+    let mut line = format!("{nx} {ny} {nz} samples, {air} of {} are air", volume.samples.len());
+    if asked.fill.is_some() {
+        line += &format!(", {filled} are fill");
+    }
     files::answer(to, &line, streams)?;
-    if Cubes::of(&volume).and_then(|cubes| cubes.lowest_crossed()).is_none() {
-        let side = if air == 0 { "solid" } else { "air" };
+    if unnamed > 0 {
         streams.say(&format!(
-            "all samples are {side}: no surface is at level {}; choose a level between the greys",
-            asked.level
+            "{unnamed} greys are {LEAST}, as scanners fill what they do not see; with --fill {LEAST} they are no samples"
         ));
+    }
+    if Cubes::of(&volume).and_then(|cubes| cubes.lowest_crossed()).is_none() {
+        let (level, seen) = (asked.level, volume.samples.len() - filled);
+        let why = match (air, filled) {
+            (0, 0) => "all samples are solid".to_string(),
+            (_, 0) => "all samples are air".to_string(),
+            (_, _) if seen == 0 => "all samples are fill".to_string(),
+            _ => format!("no cube without one of the {filled} samples of fill is crossed"),
+        };
+        let look = if filled == 0 { "" } else { ", and look at --fill" };
+        streams.say(&format!("{why}: no surface is at level {level}; choose a level between the greys{look}"));
     }
     Ok(Ended::Well)
 }
@@ -231,19 +259,26 @@ fn misfit(asked: &Asked, path: &Path, wanted: u64, length: u64) -> String {
     format!("{head} {length}, {more} more: look at --sizes and --type; if that is a header, cut it off with '{cut}'")
 }
 
-/// The samples of the box.
-fn taken(asked: &Asked, raw: &Raw) -> io::Result<Volume> {
+/// The least grey of 16 bits, which scanners use as their fill.
+const LEAST: i32 = -32_768;
+
+/// The samples of the box; and how many greys are such that they look like a fill that was not named.
+fn taken(asked: &Asked, raw: &Raw) -> io::Result<(Volume, usize)> {
     let ([all_x, all_y, _], [x, y, z], [nx, ny, nz]) = (asked.all, asked.from, asked.sizes);
     let width = asked.grey.width();
     let mut row = vec![0; nx * width];
     let mut samples = Vec::with_capacity(nx * ny * nz);
+    let mut unnamed = 0;
     for z in z..z + nz {
         for y in y..y + ny {
             let first = x as u64 + all_x as u64 * (y as u64 + all_y as u64 * z as u64);
             raw.row(first * width as u64, &mut row)?;
-            let sample = |grey: &[u8]| (asked.level - asked.grey.value(grey, asked.big)).clamp(-32_767, 32_767) as i16;
-            samples.extend(row.chunks_exact(width).map(sample));
+            for grey in row.chunks_exact(width).map(|grey| asked.grey.value(grey, asked.big)) {
+                let seen = (asked.level - grey).clamp(-32_767, 32_767) as i16;
+                samples.push(if asked.fill == Some(grey) { FILL } else { seen });
+                unnamed += usize::from(asked.fill.is_none() && grey == LEAST);
+            }
         }
     }
-    Ok(Volume { sizes: Sizes { nx, ny, nz }, samples, bytes: 0 })
+    Ok((Volume { sizes: Sizes { nx, ny, nz }, samples, bytes: 0 }, unnamed))
 }

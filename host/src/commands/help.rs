@@ -19,7 +19,8 @@ pub const ABOUT: &str = "meshes micro-CT lattices and says which sheets are soun
 /// What holds for all commands.
 pub const GENERAL: &str = "\
 A volume file has nx, ny, nz (u16), then the samples (i16, x fastest, then y, then z), all little-endian. An axis has 2 to \
-64 samples. A sample is the grey level sought minus the grey found: above 0 is air, any other is solid.
+64 samples. A sample is the grey level sought minus the grey found: above 0 is air, any other is solid. But -32768 is the \
+scanner's fill, which is no sample: a cube with such a corner is never visited, and a sheet ends there.
 
 A name of - is standard input, or standard output where a file is written; ./- is a file of that name.
 

@@ -8,7 +8,7 @@ use crate::files;
 use crate::refuse::refuse;
 use crate::room;
 use crate::streams::{Ended, Streams};
-use crate::volume::{Volume, ENOUGH};
+use crate::volume::{Volume, ENOUGH, FILL};
 
 pub static COMMAND: Command = Command {
     name: "info",
@@ -16,11 +16,12 @@ pub static COMMAND: Command = Command {
     names: &["VOLUME"],
     options: &[],
     text: "\
-Prints a line for each of: sizes; least and greatest sample; samples of air; zeros; samples of -32768; crossed cubes; \
-surfaces; and for each surface, by its lowest cube and up to 100 of them, its start and how many cubes it passes through.
+Prints a line for each of: sizes; least and greatest sample; samples of air; zeros; samples of -32768, the scanner's fill; \
+crossed cubes; surfaces; and for each surface, by its lowest cube and up to 100 of them, its start and how many cubes it passes \
+through. The fill is no sample: least, greatest and shares leave it out, and a cube with such a corner counts as not crossed.
 
-Hints on standard error say what looks like a wrong sign, a wrong byte order, a header, or greys that are no samples yet. A \
-volume that cannot be meshed prints 'refused N'.",
+Hints on standard error say what looks like a wrong sign, a wrong byte order, a header, or greys that are no samples yet, and \
+how much is fill. A volume that cannot be meshed prints 'refused N'.",
     run,
 };
 
@@ -41,8 +42,9 @@ fn run(given: &Given, streams: &mut Streams) -> Result<Ended, Failure> {
     let facts = Facts::of(&volume);
     let Sizes { nx, ny, nz } = volume.sizes;
     streams.print(format_args!("sizes {nx} {ny} {nz}"))?;
-    streams.print(format_args!("samples {}, {} to {}", volume.samples.len(), facts.least, facts.greatest))?;
-    streams.print(format_args!("air {} ({})", facts.air, percent(facts.air, volume.samples.len())))?;
+    let range = facts.range.map_or("all fill".to_string(), |(least, greatest)| format!("{least} to {greatest}"));
+    streams.print(format_args!("samples {}, {range}", volume.samples.len()))?;
+    streams.print(format_args!("air {} ({})", facts.air, percent(facts.air, facts.seen)))?;
     streams.print(format_args!("zeros {}", facts.zeros))?;
     streams.print(format_args!("fill {} (of -32768)", facts.fill))?;
     let crossed: usize = pieces.iter().map(|piece| piece.cubes).sum();
@@ -52,18 +54,19 @@ fn run(given: &Given, streams: &mut Streams) -> Result<Ended, Failure> {
         streams.print(format_args!("start {} passes through {} cubes", place_text(piece.start), piece.cubes))?;
     }
     streams.flush()?;
-    facts.hints(&volume).iter().for_each(|hint| streams.say(hint));
+    facts.hints(&cubes, &volume).iter().for_each(|hint| streams.say(hint));
     Ok(Ended::Well)
 }
 
 fn percent(part: usize, whole: usize) -> String {
-    format!("{:.1} %", 100.0 * part as f64 / whole as f64)
+    format!("{:.1} %", 100.0 * part as f64 / whole.max(1) as f64)
 }
 
-/// Counts over the samples.
+/// Counts over the samples. Those that are not the fill are seen.
 struct Facts {
-    least: i16,
-    greatest: i16,
+    /// The least and the greatest that is seen.
+    range: Option<(i16, i16)>,
+    seen: usize,
     air: usize,
     zeros: usize,
     fill: usize,
@@ -72,19 +75,22 @@ struct Facts {
 impl Facts {
     fn of(volume: &Volume) -> Facts {
         let count = |wanted: fn(&i16) -> bool| volume.samples.iter().filter(|sample| wanted(sample)).count();
+        let fill = count(|sample| *sample == FILL);
         Facts {
-            least: volume.samples.iter().min().copied().unwrap_or(0),
-            greatest: volume.samples.iter().max().copied().unwrap_or(0),
+            range: volume.range(),
+            seen: volume.samples.len() - fill,
             air: count(|sample| *sample > 0),
             zeros: count(|sample| *sample == 0),
-            fill: count(|sample| *sample == i16::MIN),
+            fill,
         }
     }
 
-    fn hints(&self, volume: &Volume) -> Vec<String> {
+    fn hints(&self, cubes: &Cubes, volume: &Volume) -> Vec<String> {
         let mut hints = Vec::new();
-        let all = volume.samples.len();
-        if self.least >= 0 {
+        let Some((least, _)) = self.range else {
+            return vec!["hint: all samples are -32768, the scanner's fill: it has seen nothing".to_string()];
+        };
+        if least >= 0 {
             hints.push(
                 "hint: no sample is below 0, as if these were greys: a sample is the level minus the grey; \
                  'malxuqeed from-raw' makes them"
@@ -94,7 +100,7 @@ impl Facts {
             hints.push("hint: no sample is air: the level is below all greys, or the sign is turned".to_string());
         }
         let (rim, rim_air) = rim(volume);
-        if self.air > 0 && 10 * rim_air < rim && 5 * self.air > all {
+        if self.air > 0 && 10 * rim_air < rim && 5 * self.air > self.seen {
             let solid = percent(rim - rim_air, rim);
             hints.push(format!(
                 "hint: {solid} of the outermost samples are solid while much of the inside is air: if air surrounds the part, the \
@@ -111,13 +117,14 @@ impl Facts {
             );
         }
         if self.fill > 0 {
-            let part = percent(self.fill, all);
+            let (part, filled) = (percent(self.fill, volume.samples.len()), cubes.filled());
             hints.push(format!(
-                "hint: {part} of the samples are -32768, as scanners fill what they do not see; it counts as solid"
+                "hint: {part} of the samples are -32768, the scanner's fill; it is no sample: the {filled} cubes that hold it are \
+                 never visited, and a sheet ends there"
             ));
         }
-        if 100 * self.zeros > all {
-            let part = percent(self.zeros, all);
+        if 100 * self.zeros > self.seen {
+            let part = percent(self.zeros, self.seen);
             hints.push(format!(
                 "hint: {part} of the samples are 0: 0 is solid, and vertices beside it fall on one point"
             ));
@@ -126,23 +133,24 @@ impl Facts {
     }
 }
 
-/// How many samples lie in an outer face, and how many of those are air.
+/// How many samples that are seen lie in an outer face of the lattice, and how many of those are air.
 fn rim(volume: &Volume) -> (usize, usize) {
     let Sizes { nx, ny, nz } = volume.sizes;
     let outer = |n: &usize| {
         let [x, y, z] = [n % nx, n / nx % ny, n / nx / ny];
         x == 0 || y == 0 || z == 0 || x == nx - 1 || y == ny - 1 || z == nz - 1
     };
-    let rim: Vec<usize> = (0..volume.samples.len()).filter(outer).collect();
-    (rim.len(), rim.iter().filter(|&&n| volume.samples[n] > 0).count())
+    let rim: Vec<i16> = (0..volume.samples.len()).filter(outer).map(|n| volume.samples[n]).collect();
+    let count = |wanted: fn(&i16) -> bool| rim.iter().filter(|sample| wanted(sample)).count();
+    (count(|sample| *sample != FILL), count(|sample| *sample > 0))
 }
 
-/// The mean step between neighbours on the x axis.
+/// The mean step between neighbours on the x axis that are both seen.
 fn roughness(volume: &Volume) -> f64 {
-    let nx = volume.sizes.nx;
-    let rows = volume.samples.chunks_exact(nx);
-    let steps = rows.flat_map(|row| row.windows(2).map(|pair| f64::from(pair[0]) - f64::from(pair[1])));
-    steps.map(f64::abs).sum::<f64>() / (volume.samples.len() / nx * (nx - 1)) as f64
+    let rows = volume.samples.chunks_exact(volume.sizes.nx);
+    let pairs = rows.flat_map(|row| row.windows(2)).filter(|pair| !pair.contains(&FILL));
+    let steps: Vec<f64> = pairs.map(|pair| (f64::from(pair[0]) - f64::from(pair[1])).abs()).collect();
+    steps.iter().sum::<f64>() / steps.len().max(1) as f64
 }
 
 /// What a file that is no volume might be.

@@ -1,8 +1,9 @@
 //! An archive as a bench has one: scans with several surfaces each, sound sheets from many starts and in many orders, and
-//! wrong ones of every kind that the trade has seen. The sheets are the second mesher's.
+//! wrong ones of every kind that the trade has seen. Every other scan has a ring of fill. The sheets are the second mesher's.
 
 use crate::cases::{content, Case};
 use crate::damage;
+use crate::fill::{self, FILL};
 use crate::random::Random;
 use second::{serialize, Content, Lattice};
 use std::io;
@@ -38,8 +39,8 @@ pub struct Archived {
     pub kind: Kind,
 }
 
-/// Bubbles of air in solid, on a small lattice.
-fn scan(random: &mut Random) -> Case {
+/// Bubbles of air in solid, on a small lattice, perhaps in a ring of fill.
+fn scan(random: &mut Random, ring: bool) -> Case {
     let sizes = [(); 3].map(|_| 12 + random.below(5));
     let bubbles: Vec<([f64; 3], f64)> =
         (0..6).map(|_| (sizes.map(|axis| random.unit() * axis as f64), 1.2 + random.unit() * 1.8)).collect();
@@ -50,7 +51,11 @@ fn scan(random: &mut Random) -> Case {
         bubbles.iter().map(|(centre, radius)| radius - far(centre)).fold(f64::NEG_INFINITY, f64::max)
     };
     let samples = (0..nx * ny * nz).map(|n| (2000.0 * depth(n).max(-8.0) + 60.0 * random.unit()) as i16).collect();
-    Case { sizes, start: None, samples }
+    let mut scan = Case { sizes, start: None, samples };
+    if ring {
+        fill::ring(&mut scan, 2, 6.2);
+    }
+    scan
 }
 
 /// A cube that a surface passes through.
@@ -102,7 +107,8 @@ fn sheet(random: &mut Random, scan: &Case, kind: Kind) -> (Content, [usize; 3]) 
     loop {
         let mut case = Case { start: Some(crossed(random, scan)), ..scan.clone() };
         if kind == Kind::Strange {
-            case.samples.iter_mut().for_each(|sample| *sample = sample.saturating_add(90));
+            let seen = case.samples.iter_mut().filter(|sample| **sample != FILL);
+            seen.for_each(|sample| *sample = sample.saturating_add(90));
         }
         let sheet = content(&case);
         // the start may not be crossed in the other scan; and a small sheet may be sorted by position as it is
@@ -120,7 +126,7 @@ fn sheet(random: &mut Random, scan: &Case, kind: Kind) -> (Content, [usize; 3]) 
 pub fn write(folder: &Path, random: &mut Random, kinds: &[Kind]) -> io::Result<Vec<Archived>> {
     let mut archived = Vec::new();
     for (tray, kinds) in kinds.chunks(20).enumerate() {
-        let scan = scan(random);
+        let scan = scan(random, tray % 2 == 1);
         let volume = format!("tray-{tray}.vol");
         std::fs::write(folder.join(&volume), scan.file())?;
         for (number, &kind) in kinds.iter().enumerate() {

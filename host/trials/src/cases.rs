@@ -59,7 +59,7 @@ pub fn cube_count(sizes: [usize; 3]) -> usize {
     }
 }
 
-fn random_sizes(random: &mut Random) -> [usize; 3] {
+pub fn random_sizes(random: &mut Random) -> [usize; 3] {
     let mut sizes = [(); 3].map(|_| 2 + random.below(4));
     match random.below(40) {
         // a bad axis
@@ -78,7 +78,7 @@ fn random_sizes(random: &mut Random) -> [usize; 3] {
 }
 
 /// Samples in several manners: sparse, dense, extreme, near zero, smooth, all on one side.
-fn random_samples(random: &mut Random, sizes: [usize; 3]) -> Vec<i16> {
+pub fn random_samples(random: &mut Random, sizes: [usize; 3]) -> Vec<i16> {
     const EXTREMES: [i16; 8] = [i16::MIN, i16::MIN + 1, -1, 0, 1, 2, i16::MAX - 1, i16::MAX];
     let count = sample_count(sizes);
     let manner = random.below(20);
@@ -130,7 +130,7 @@ fn random_samples(random: &mut Random, sizes: [usize; 3]) -> Vec<i16> {
     samples
 }
 
-fn random_start(random: &mut Random, sizes: [usize; 3]) -> Option<[usize; 3]> {
+pub fn random_start(random: &mut Random, sizes: [usize; 3]) -> Option<[usize; 3]> {
     match random.below(20) {
         0..=7 => None,
         8 => Some([(); 3].map(|_| random.pick(&[0, 1, 62, 63, 64, usize::MAX, usize::MAX - 1, 1 << 32]))),

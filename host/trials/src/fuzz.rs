@@ -33,10 +33,12 @@ pub type Counts = BTreeMap<(&'static str, usize), u64>;
 
 type Trial = (&'static str, fn(&mut Random) -> usize);
 
-const TRIALS: [Trial; 10] = [
+const TRIALS: [Trial; 12] = [
     ("build", hold::build),
+    ("build, fill", hold::build_filled),
     ("check", hold::check),
     ("tool", tooled::round),
+    ("check, fill", hold::check_filled),
     ("read", hold::read),
     ("check", hold::check),
     ("write", hold::write),

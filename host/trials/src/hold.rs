@@ -1,9 +1,9 @@
 //! One random case of each function, the library's answer and all lent memory held against the second mesher's.
 //! A difference panics with the case.
 
-use crate::cases::{case, content, output_room, sheet_counts, sizes, Guarded, Lent};
-use crate::damage;
+use crate::cases::{case, content, output_room, sheet_counts, sizes, Case, Guarded, Lent};
 use crate::random::Random;
+use crate::{damage, fill, pairing};
 use host::abi::{self, Built, Got, Verdict, Wrote};
 use second::Content;
 
@@ -11,16 +11,43 @@ fn built(b: second::Built) -> Built {
     Built { number: b.number, vertices: b.vertices, triangles: b.triangles, cubes: b.cubes }
 }
 
-/// The number that both gave is returned, for counting.
-pub fn build(random: &mut Random) -> usize {
-    let case = case(random);
-    let counts = sheet_counts(&case);
+/// The number that both gave is returned, for counting. Triangles of a sheet pair up.
+fn build_of(random: &mut Random, case: &Case) -> usize {
+    let counts = sheet_counts(case);
     let room = output_room(random, counts.vertices, counts.triangles);
     let mut ours = Lent::doubtful(random, case.sizes, room);
     let mut theirs = ours.clone();
-    let answer = ours.library_build(&case);
-    assert_eq!(answer, built(theirs.second_build(&case)), "{case:?} {room:?}");
+    let answer = ours.library_build(case);
+    let expected = theirs.second_build(case);
+    assert_eq!(answer, built(expected), "{case:?} {room:?}");
     assert!(ours == theirs, "memory differs after {answer:?}: {case:?} {room:?}");
+    if answer.number == 0 {
+        pairing::hold(case, &theirs.content(case, &expected));
+    }
+    answer.number
+}
+
+pub fn build(random: &mut Random) -> usize {
+    let case = case(random);
+    build_of(random, &case)
+}
+
+pub fn build_filled(random: &mut Random) -> usize {
+    let case = fill::case(random);
+    build_of(random, &case)
+}
+
+/// The number that both gave is returned, for counting. Triangles of an accepted sheet pair up.
+fn check_of(random: &mut Random, about: &Case, file: &[u8]) -> usize {
+    let mut ours = Lent::doubtful(random, about.sizes, [0, 0]);
+    let mut theirs = ours.clone();
+    let answer = ours.library_check(about, file);
+    let second::Verdict { number, place } = theirs.second_check(about, file);
+    assert_eq!(answer, Verdict { number, place }, "{about:?} {file:?}");
+    assert!(ours == theirs, "memory differs after {answer:?}: {about:?} {file:?}");
+    if let (0, Ok(content)) = (answer.number, second::parse(file)) {
+        pairing::hold(about, &content);
+    }
     answer.number
 }
 
@@ -37,13 +64,32 @@ pub fn check(random: &mut Random) -> usize {
             about.start = other.start;
         }
     }
-    let mut ours = Lent::doubtful(random, about.sizes, [0, 0]);
-    let mut theirs = ours.clone();
-    let answer = ours.library_check(&about, &file);
-    let second::Verdict { number, place } = theirs.second_check(&about, &file);
-    assert_eq!(answer, Verdict { number, place }, "{about:?} {file:?}");
-    assert!(ours == theirs, "memory differs after {answer:?}: {about:?} {file:?}");
-    answer.number
+    check_of(random, &about, &file)
+}
+
+/// A volume with fill, and the volume that a file of it was made from: itself, from another start, its fill read as solid or as
+/// air, or with a grain of fill more.
+pub fn check_filled(random: &mut Random) -> usize {
+    let about = fill::case(random);
+    let mut made = match random.below(8) {
+        0 => fill::unfilled(&about, -32_767),
+        1 => fill::unfilled(&about, random.pick(&[1, 32_767])),
+        2 => {
+            let mut grain = about.clone();
+            let rare = grain.samples.len().max(1);
+            fill::grains(random, &mut grain, rare);
+            grain
+        }
+        3 => Case { start: None, ..about.clone() },
+        _ => about.clone(),
+    };
+    if content(&made).is_none() {
+        // no sheet is there to be made: what was made before the fill was known
+        made = fill::unfilled(&about, -32_767);
+    }
+    let sheet = content(&made).unwrap_or_else(|| damage::free_content(random));
+    let file = damage::file(random, &sheet);
+    check_of(random, &about, &file)
 }
 
 /// Contents of files, some of them sheets.

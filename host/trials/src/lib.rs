@@ -1,10 +1,12 @@
-//! Trials of the proved library and of the tool: random cases, fuzzing, test volumes.
+//! Trials of the proved library and of the tool: random cases, with and without fill, fuzzing, test volumes.
 
 pub mod archive;
 pub mod cases;
 pub mod damage;
+pub mod fill;
 pub mod fuzz;
 pub mod hold;
+pub mod pairing;
 pub mod random;
 pub mod stack;
 pub mod stl;

@@ -1,8 +1,9 @@
 //! Random command lines for the tool, in the current folder: what it prints, its status and every file afterwards are
 //! held against what the second mesher says.
 
-use crate::cases::{case, content, sheet_counts, Case, Lent};
+use crate::cases::{content, sheet_counts, Case, Lent};
 use crate::damage;
+use crate::fill::any_case;
 use crate::random::Random;
 use crate::stl;
 use host::args::{self, Given, Start as Asked};
@@ -117,7 +118,7 @@ fn prepare(random: &mut Random, about: &Case) -> std::io::Result<Manifest> {
     let sheet = content(about).unwrap_or_else(|| damage::free_content(random));
     fs::write("v.raw", about.file())?;
     fs::write("w.raw", damage::volume_file(random, about.file()))?;
-    let other = case(random).file();
+    let other = any_case(random).file();
     fs::write("x y.raw", damage::volume_file(random, other))?;
     fs::write("s.sheet", second::serialize(&sheet))?;
     fs::write("t.sheet", damage::file(random, &sheet))?;
@@ -466,7 +467,7 @@ fn expect(parsed: &Result<(&'static Command, Given), Failure>, input: &[u8], man
 
 /// One command line. A difference panics. The status is returned, for counting.
 pub fn round(random: &mut Random) -> usize {
-    let about = case(random);
+    let about = any_case(random);
     let manifest = prepare(random, &about).expect("the folder can be filled");
     let args = words(random, about.start);
     let input = damage::volume_file(random, about.file());

@@ -1,6 +1,7 @@
-//! The demo's synthetic tray: housings on one lattice, some with pores.
+//! The demo's synthetic tray: housings on one lattice, some with pores, and the scanner's fill round its field of view.
 
 use crate::cases::Case;
+use crate::fill::{self, FILL};
 use crate::random::Random;
 
 const SIZES: [usize; 3] = [64, 64, 40];
@@ -22,16 +23,19 @@ struct Pore {
 
 #[rustfmt::skip]
 const HOUSINGS: [Housing; 4] = [
-    Housing { centre: [16.0, 16.0], half: [11.0, 10.0], height: 30.0, bore: 4.0, pores: &[] },
-    Housing { centre: [47.0, 16.0], half: [12.0, 11.0], height: 26.0, bore: 4.5, pores: &[
-        Pore { centre: [39.5, 16.2, 13.1], radius: 1.9 },
+    Housing { centre: [20.5, 20.5], half: [9.0, 8.5], height: 30.0, bore: 3.5, pores: &[] },
+    Housing { centre: [43.0, 20.5], half: [9.5, 9.0], height: 26.0, bore: 3.0, pores: &[
+        Pore { centre: [37.1, 15.4, 13.1], radius: 1.9 },
     ] },
-    Housing { centre: [16.0, 47.0], half: [12.0, 12.0], height: 32.0, bore: 5.0, pores: &[
-        Pore { centre: [7.9, 47.3, 10.2], radius: 1.6 },
-        Pore { centre: [23.8, 52.1, 21.4], radius: 2.3 },
+    Housing { centre: [20.5, 43.0], half: [9.5, 9.5], height: 32.0, bore: 3.5, pores: &[
+        Pore { centre: [14.2, 43.3, 10.2], radius: 1.4 },
+        Pore { centre: [26.2, 48.6, 21.4], radius: 2.2 },
     ] },
-    Housing { centre: [47.0, 47.0], half: [10.0, 11.0], height: 28.0, bore: 3.5, pores: &[] },
+    Housing { centre: [43.0, 43.0], half: [8.5, 9.5], height: 28.0, bore: 3.0, pores: &[] },
 ];
+
+/// How far the scanner sees from the tray's middle, in sample steps; the ring outside is fill.
+const VIEW: f64 = 31.2;
 
 /// One surface of the tray: what it is and a cube that it passes through.
 pub struct Piece {
@@ -68,15 +72,21 @@ pub fn volume() -> Case {
             }
         }
     }
-    Case { sizes: SIZES, start: None, samples }
+    let mut tray = Case { sizes: SIZES, start: None, samples };
+    fill::ring(&mut tray, 2, VIEW);
+    tray
 }
 
 /// The grey between air and casting in the tray's scan.
 pub const LEVEL: i32 = 20_000;
 
+/// The grey of the fill in the tray's scan: brighter than all others.
+pub const UNSEEN: u16 = 65_535;
+
 /// The scan as the scanner writes it: greys of 16 bits without a header.
 pub fn greys(volume: &Case) -> Vec<u8> {
-    volume.samples.iter().flat_map(|sample| ((LEVEL - i32::from(*sample)) as u16).to_le_bytes()).collect()
+    let grey = |sample: &i16| if *sample == FILL { UNSEEN } else { (LEVEL - i32::from(*sample)) as u16 };
+    volume.samples.iter().flat_map(|sample| grey(sample).to_le_bytes()).collect()
 }
 
 /// The cube where a walk from an air sample towards lower x meets solid.
@@ -121,5 +131,19 @@ mod tests {
             all += sheet.records.len();
         }
         assert_eq!((pieces.len(), edges.len()), (7, all));
+    }
+
+    #[test]
+    fn the_ring_is_fill_and_touches_no_surface() {
+        let volume = volume();
+        let filled = volume.samples.iter().filter(|sample| **sample == FILL).count();
+        assert!(10 * filled > 2 * volume.samples.len() && 10 * filled < 3 * volume.samples.len());
+        let case = crate::fill::unfilled(&volume, 1);
+        let surfaces = |case: &Case| pieces(case).iter().map(|piece| piece.start).collect::<Vec<_>>();
+        assert_eq!(surfaces(&case), surfaces(&volume));
+        for start in surfaces(&volume) {
+            let from = |case: &Case| content(&Case { start: Some(start), ..case.clone() });
+            assert_eq!(from(&case), from(&volume));
+        }
     }
 }

@@ -1,7 +1,8 @@
-//! The volumes of the benchmark. Three of 64x64x64 samples: one pore; a tray with walls at the bounds; noise. Small surfaces in as
-//! large a lattice: a speck and balls. Balls and noise on lattices that grow.
+//! The volumes of the benchmark. Three of 64x64x64 samples: one pore; a tray with walls at the bounds; noise. The same with fill. Small
+//! surfaces in as large a lattice: a speck and balls. Balls and noise on lattices that grow.
 
 use crate::cases::Case;
+use crate::fill;
 use crate::random::Random;
 
 const N: usize = 64;
@@ -87,6 +88,16 @@ pub fn ball(n: usize, radius: f64) -> Case {
 pub fn speck() -> Case {
     let middle = N as f64 / 2.0;
     sampled(N, |x, y, z| if [x, y, z] == [middle; 3] { 1000.0 } else { -1000.0 })
+}
+
+/// The three with fill: the pore and the tray in the ring outside a round field of view, noise with grains.
+pub fn filled() -> [(&'static str, Case); 3] {
+    let (mut pore, mut tray, mut noise) = (pore(), tray(), noise(N));
+    // the pore reaches 23 samples from the middle, so this ring cuts it
+    fill::ring(&mut pore, 2, 21.0);
+    fill::ring(&mut tray, 2, 31.5);
+    fill::grains(&mut Random::new(8), &mut noise, 50);
+    [("pore in a ring", pore), ("tray in a ring", tray), ("noise with grains", noise)]
 }
 
 /// The three, by name.

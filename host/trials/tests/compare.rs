@@ -5,8 +5,9 @@ use host::sheet::Sheet;
 use host::volume::Volume;
 use std::collections::{BTreeMap, BTreeSet};
 use trials::cases::{self, Case, Lent};
+use trials::fill::{self, FILL};
 use trials::random::Random;
-use trials::{damage, hold, stl, volumes};
+use trials::{damage, hold, pairing, stl, volumes};
 
 /// Runs so many cases and says that each of the numbers came up.
 fn hold(cases: u64, seed: u64, trial: fn(&mut Random) -> usize, numbers: &[usize]) {
@@ -26,6 +27,137 @@ fn build_8000() {
 #[test]
 fn check_10000() {
     hold(10_000, 2_000_000, hold::check, &[0, 1, 2, 3, 4, 5, 11, 12, 14, 15, 16, 17, 18, 19]);
+}
+
+/// With those of the next test, 20,000 cases have fill.
+#[test]
+fn build_with_fill_8000() {
+    hold(8000, 9_000_000, hold::build_filled, &[0, 1, 2, 3, 4, 5, 6, 7]);
+}
+
+#[test]
+fn check_with_fill_12000() {
+    hold(12_000, 10_000_000, hold::check_filled, &[0, 1, 2, 3, 4, 5, 11, 12, 14, 15, 16, 17, 18, 19]);
+}
+
+/// Solid, with air and fill at some samples.
+fn worked(sizes: [usize; 3], air: &[[usize; 3]], fill: &[[usize; 3]], start: Option<[usize; 3]>) -> Case {
+    let mut samples = vec![-1; sizes.iter().product()];
+    let number = |[x, y, z]: &[usize; 3]| x + sizes[0] * (y + sizes[1] * z);
+    air.iter().for_each(|place| samples[number(place)] = 1);
+    fill.iter().for_each(|place| samples[number(place)] = FILL);
+    Case { sizes, start, samples }
+}
+
+/// Number, vertices, triangles and cubes, by the second mesher, the C mesher and the library; their memory is the same.
+fn by_all(case: &Case) -> [usize; 4] {
+    let sizes = case.sizes.map(|axis| axis as u16);
+    let mut theirs = Lent::clean(case.sizes, [400, 400]);
+    let (mut c, mut ours) = (theirs.clone(), theirs.clone());
+    let second::Built { number, vertices, triangles, cubes } = theirs.second_build(case);
+    let wanted = [number, vertices, triangles, cubes];
+    let start = case.start.map(|cube| cube.map(|v| v as u16));
+    let lent = baseline::Lent {
+        vertices: c.vertices.lend(),
+        triangles: c.triangles.lend(),
+        words: c.words.lend(),
+        waiting: c.waiting.lend(),
+        slots: c.slots.lend(),
+    };
+    assert_eq!(baseline::build(sizes, start, &case.samples, lent), wanted, "{case:?}");
+    assert!(c == theirs, "second.c leaves other memory: {case:?}");
+    let built = ours.library_build(case);
+    assert_eq!([built.number, built.vertices, built.triangles, built.cubes], wanted, "{case:?}");
+    assert!(ours == theirs, "memory differs: {case:?}");
+    wanted
+}
+
+/// Worked sheets of document 02 (iii).
+#[test]
+fn worked_sheets_with_fill() {
+    let single = |start| worked([3; 3], &[[1; 3]], &[[0; 3]], start);
+    assert_eq!(by_all(&single(Some([0, 0, 0]))), [5, 0, 0, 0]);
+    assert_eq!(by_all(&single(None)), [0, 14, 23, 7]);
+    for n in 1..8 {
+        assert_eq!(by_all(&single(Some([n % 2, n / 2 % 2, n / 4]))), [0, 14, 23, 7]);
+    }
+    let parted = |start| worked([3, 3, 2], &[[1, 1, 0]], &[[0, 0, 0], [2, 2, 0]], Some(start));
+    let pieces = [[1, 0, 0], [0, 1, 0]].map(parted);
+    let sheets = pieces.clone().map(|piece| {
+        assert_eq!(by_all(&piece), [0, 5, 3, 1]);
+        cases::content(&piece).expect("the start is crossed")
+    });
+    // each has a vertex of its own on edge 30, at the same place, and each is right from its own start alone
+    let vertex = |sheet: &second::Content| sheet.records.iter().find(|record| record[0] == 30).copied();
+    assert_eq!(sheets.each_ref().map(vertex), [Some([30, 65_536, 65_536, 32_768]); 2]);
+    for (of, sheet) in sheets.iter().enumerate() {
+        for (from, piece) in pieces.iter().enumerate() {
+            let file = second::serialize(sheet);
+            let mut lent = Lent::clean(piece.sizes, [0, 0]);
+            let (ours, theirs) = (lent.library_check(piece, &file), lent.second_check(piece, &file));
+            assert_eq!((ours.number, ours.place), (theirs.number, theirs.place));
+            assert_eq!((theirs.number, theirs.place), if of == from { (0, 0) } else { (17, 0) });
+        }
+        pairing::hold(&pieces[of], sheet);
+    }
+    for start in [[0, 0, 0], [1, 1, 0]] {
+        assert_eq!(by_all(&parted(start)), [5, 0, 0, 0]);
+    }
+    assert_eq!(by_all(&worked([2; 3], &[], &[[0; 3]], None)), [5, 0, 0, 0]);
+    // a start outside is 4 before all that
+    assert_eq!(by_all(&single(Some([2, 0, 0]))), [4, 0, 0, 0]);
+}
+
+/// Each corner of a cube air, solid or fill: its start is crossed exactly where it is free of the fill and not on one side.
+#[test]
+fn every_cube_of_air_solid_and_fill() {
+    let mut crossed = 0;
+    for number in 0..usize::pow(3, 8) {
+        let samples: Vec<i16> = (0..8).map(|corner| [1, -1, FILL][number / usize::pow(3, corner) % 3]).collect();
+        for start in [None, Some([0; 3])] {
+            let case = Case { sizes: [2; 3], start, samples: samples.clone() };
+            let mut ours = Lent::clean(case.sizes, [4 * 19, 3 * 12]);
+            let mut theirs = ours.clone();
+            let (answer, expected) = (ours.library_build(&case), theirs.second_build(&case));
+            assert_eq!(
+                [answer.number, answer.vertices, answer.triangles, answer.cubes],
+                [expected.number, expected.vertices, expected.triangles, expected.cubes],
+                "{case:?}"
+            );
+            assert!(ours == theirs, "memory differs: {case:?}");
+            crossed += usize::from(answer.number == 0);
+        }
+    }
+    assert_eq!(crossed, 2 * 254);
+}
+
+/// Demand 3 with the fill, on the second mesher's sheets: every piece of volumes with rings, grains and walls. Pieces that fill
+/// parts may share a lattice edge, and each has a vertex there.
+#[test]
+fn pairing_with_fill_3000() {
+    let (mut sheets, mut single, mut shared) = (0, 0, 0);
+    for seed in 0..3000 {
+        let mut case = fill::case(&mut Random::new(11_000_000 + seed));
+        let Ok(lattice) = second::Lattice::new(case.sizes, &case.samples) else { continue };
+        let starts: Vec<second::Point> = lattice.cubes().filter(|cube| lattice.crossed(*cube)).collect();
+        let mut seen = BTreeSet::new();
+        let mut edges = BTreeSet::new();
+        for start in starts {
+            if seen.contains(&start) {
+                continue;
+            }
+            seen.extend(second::Sheet::of(&lattice, start).visited);
+            case.start = Some([start.x, start.y, start.z].map(|v| v as usize));
+            let content = cases::content(&case).expect("the start is crossed");
+            single += pairing::hold(&case, &content);
+            shared += content.records.iter().filter(|record| !edges.insert(record[0])).count();
+            sheets += 1;
+        }
+    }
+    println!(
+        "{sheets} sheets, {single} directed edges without a reverse, {shared} lattice edges with a further vertex"
+    );
+    assert!(sheets > 5000 && single > 10_000 && shared > 100);
 }
 
 #[test]
@@ -87,11 +219,10 @@ fn flat_facets_2000() {
 }
 
 /// The surfaces that the tool tells of are those that the second mesher visits, by their lowest cubes.
-#[test]
-fn surfaces_2000() {
+fn surfaces(seed: u64, case: fn(&mut Random) -> Case) {
     let mut most = 0;
-    for seed in 0..2000 {
-        let case = cases::case(&mut Random::new(5_000_000 + seed));
+    for round in 0..2000 {
+        let case = case(&mut Random::new(seed + round));
         let volume = Volume::parse(&case.file());
         let Some(cubes) = Cubes::of(&volume) else { continue };
         let lattice = second::Lattice::new(case.sizes, &case.samples).expect("sizes and samples fit");
@@ -107,6 +238,16 @@ fn surfaces_2000() {
         assert_eq!(cubes.pieces().0, wanted, "{case:?}");
     }
     assert!(most > 5);
+}
+
+#[test]
+fn surfaces_2000() {
+    surfaces(5_000_000, cases::case);
+}
+
+#[test]
+fn surfaces_with_fill_2000() {
+    surfaces(12_000_000, fill::case);
 }
 
 /// Builds, writes, reads and checks one large lattice on both sides.
@@ -156,7 +297,7 @@ fn whole(mut case: Case, random: &mut Random) {
 
 /// Air and solid in turn on every axis, at extreme values: nearly the most vertices and triangles.
 fn chequered() -> Case {
-    let value = |n: usize| [i16::MAX, i16::MIN][(n % 64 + n / 64 % 64 + n / 4096) % 2];
+    let value = |n: usize| [i16::MAX, i16::MIN + 1][(n % 64 + n / 64 % 64 + n / 4096) % 2];
     Case { sizes: [64; 3], start: None, samples: (0..64 * 64 * 64).map(value).collect() }
 }
 
@@ -164,6 +305,16 @@ fn chequered() -> Case {
 fn full_lattices() {
     let mut random = Random::new(5);
     for case in volumes::all().map(|(_, case)| case).into_iter().chain([chequered()]) {
+        whole(case, &mut random);
+    }
+}
+
+/// The same volumes in a ring of fill, as scanners leave it, and with grains.
+#[test]
+fn full_lattices_with_fill() {
+    let mut random = Random::new(6);
+    for (name, case) in volumes::filled() {
+        println!("{name}");
         whole(case, &mut random);
     }
 }

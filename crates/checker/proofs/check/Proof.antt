@@ -32,10 +32,10 @@ w s = work (now (s .args .words)) (now (s .args .waiting)) (now (s .args .slots)
 
 -- the stages of a call: from where tests 1 to 5 are passed, and from where those of the file are
 abbrev start : tie.After-begin → tie.Start
-start c = c .before .before .before .before .before .before
+start c = c .before .before .before .before .before .before .before
 
 abbrev begun : tie.Else1 → tie.After-begin
-begun c = c .before .before .before
+begun c = c .before .before .before .before
 
 abbrev past : tie.Else2 → tie.Else1
 past c = c .before .before .before
@@ -51,6 +51,7 @@ passed : (c : tie.Else1) → judge (sampleTests (L (entry c)) (entry c .args .st
 passed c = sym (begun c .begin .ensures .answer) ∙ c .if1 .left
 
 begins : (c : tie.Else1) → Begins (L (entry c)) (entry c .args .start) (lengths (w (entry c))) (begun c .begin .last .1 .1 .1 .1 .1 .1 .0)
+    (begun c .begin .last .1 .1 .1 .1 .1 .1 .1 .0)
     (begun c .begin .result .cube)
 begins c = begun c .begin .ensures .begins (c .if1 .left)
 
@@ -64,12 +65,15 @@ same c = c .same-sizes .ensures ∙ ap (λ z. sameSizes z (entry (past (read c))
 slice-aggregate-begin : tie.Need-slice-aggregate-begin
 slice-aggregate-begin c = search needs
 
+slice-aggregate-begin-2 : tie.Need-slice-aggregate-begin-2
+slice-aggregate-begin-2 c = search needs
+
 begin-requires : tie.Need-begin-requires
 begin-requires c κs = search needs
 
 returns : tie.Need-returns
 returns c =
-    let b = c .before .before .before in
+    let b = c .before .before .before .before in
     let s = start b in
     let e = b .begin .ensures .answer in
     let n = lengths (w s) in
@@ -107,11 +111,14 @@ returns-3 c =
 slice-aggregate-check-from : tie.Need-slice-aggregate-check-from
 slice-aggregate-check-from c = search needs
 
+slice-aggregate-check-from-2 : tie.Need-slice-aggregate-check-from-2
+slice-aggregate-check-from-2 c = search needs
+
 check-from-requires : tie.Need-check-from-requires
 check-from-requires c κs =
-    let f = read (c .before .before .before .before .before) in
+    let f = read (c .before .before .before .before .before .before) in
     let b = begins (past f) in
-    ((b .full, b .sides, b .below, laid-out (bs (entry (past f))) (told f)), b .roomy)
+    ((b .full, b .both, b .below, b .crosses, laid-out (bs (entry (past f))) (told f)), b .roomy)
 
 same-length : tie.Need-same-length
 same-length c = search needs
@@ -125,7 +132,7 @@ same-length-3 c = search needs
 returns-4 : tie.Need-returns-4
 returns-4 c =
     let at-check = c .before .before .before .before .before .before in
-    let at-if3 = at-check .before .before .before .before .before in
+    let at-if3 = at-check .before .before .before .before .before .before in
     let f = read (at-if3 .before) in
     let b = past f in
     let s = entry b in
@@ -139,6 +146,7 @@ check-spec =
     tie.close
     (tie.spec
     slice-aggregate-begin
+    slice-aggregate-begin-2
     begin-requires
     returns
     tested-requires
@@ -147,6 +155,7 @@ check-spec =
     same-sizes-requires
     returns-3
     slice-aggregate-check-from
+    slice-aggregate-check-from-2
     check-from-requires
     same-length
     same-length-2

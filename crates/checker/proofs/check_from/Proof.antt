@@ -7,6 +7,7 @@ use Rattle.lists.specs.Lists.{cleared}
 use Rattle.lists.proofs.Stores.{beyond-trans, clear-beyond}
 use Rattle.paper.specs.Lattice.{Lattice, lattice}
 use Rattle.paper.specs.Room.{work, needed, neededSlots}
+use Rattle.paper.proofs.Visits.{crossed-visitable}
 use Rattle.spread.proofs.Ways.{words-le}
 use Rattle.spread.proofs.Joining.{fresh}
 use Rattle.checker.proofs.check_from.Statement.{statement}
@@ -18,7 +19,7 @@ L s = lattice (s .args .sizes) (now (s .args .samples))
 -- ── stages ──
 
 abbrev start : tie.After-visit → tie.Start
-start c = c .before .before .before .before .before .before .before .before
+start c = c .before .before .before .before .before .before .before .before .before
 
 abbrev visited : tie.After-last-tests → tie.After-visit
 visited c = c .before .before .before .before .before .before .before
@@ -28,9 +29,9 @@ slice-aggregate-visit c = search needs
 
 visit-requires : tie.Need-visit-requires
 visit-requires c κs =
-    let s = c .before .before .before .before .before .before .before in
+    let s = c .before .before .before .before .before .before .before .before in
     let p = s .pre .0 in
-    ((p .0 .sized, p .2, p .1 .long), (fresh (s .args .sizes) (p .0 .sized), s .pre .1 .waiting))
+    ((p .0 .sized, p .2, p .1 .sides .long, p .1 .free .long), (fresh (s .args .sizes) (p .0 .sized), s .pre .1 .waiting))
 
 slice-aggregate-last-tests : tie.Need-slice-aggregate-last-tests
 slice-aggregate-last-tests c = search needs
@@ -40,7 +41,7 @@ last-tests-requires c κs =
     let v = c .before .before .before .before .before .before in
     let s = start v in
     let p = s .pre .0 in (
-      (p .0, record { start = s .args .k; stands = v .visit .ensures .stands _ (p .1) }, p .3),
+      (p .0, record { start = s .args .k; stands = v .visit .ensures .stands _ (p .1) (crossed-visitable (L s) (s .args .k) (p .3)) }, p .4),
       (
         omega (arith, words-le (s .args .sizes) (p .0 .sized), v .visit .kept),
         omega (arith, s .pre .1 .waiting, v .visit .ensures .beyond .same-length),
@@ -81,7 +82,7 @@ returns c =
     let q = t .last-tests .ensures in
     let waiting = clear-beyond (needed (s .args .sizes)) _ _ (beyond-trans (v .visit .ensures .beyond) (q .1)) in
     let slots = clear-beyond (neededSlots (s .args .sizes)) _ _ (q .2) in (
-      q .0 .is (s .args .k) (v .visit .ensures .stands _ (p .1)),
+      q .0 .is (s .args .k) (v .visit .ensures .stands _ (p .1) (crossed-visitable (L s) (s .args .k) (p .3))),
       at-clear .clear-work .ensures ∙ (λ i. work (cleared (needed (s .args .sizes)) (now (s .args .words))) (waiting i) (slots i)),
     )
 

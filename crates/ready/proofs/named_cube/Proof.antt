@@ -24,7 +24,9 @@ returns c = record {
 }
 
 crossed-at-requires : tie.Need-crossed-at-requires
-crossed-at-requires c κs = (c .before .before .before .pre .0, c .before .before .before .pre .1, in-lattice _ _ (eq→T (sym (c .before .is-cube .ensures) ∙ not-false _ (c .if1 .left))))
+crossed-at-requires c κs =
+    let s = c .before .before .before .before in
+    (s .pre .0, s .pre .1, s .pre .2, in-lattice _ _ (eq→T (sym (c .before .is-cube .ensures) ∙ not-false _ (c .if1 .left))))
 
 returns-2 : tie.Need-returns-2
 unfolding startTests
@@ -42,7 +44,7 @@ returns-2 c = record {
 }
 
 cube-no-requires : tie.Need-cube-no-requires
-cube-no-requires c κs = (c .before .before .before .before .before .pre .0, in-lattice _ _ (eq→T (sym (c .before .before .before .is-cube .ensures) ∙ not-false _ (c .before .before .if1 .left))))
+cube-no-requires c κs = (c .before .before .before .before .before .before .pre .0, in-lattice _ _ (eq→T (sym (c .before .before .before .is-cube .ensures) ∙ not-false _ (c .before .before .if1 .left))))
 
 returns-3 : tie.Need-returns-3
 unfolding startTests

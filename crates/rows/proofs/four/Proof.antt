@@ -1,31 +1,31 @@
--- The four sides with their weights. Assumes nothing.
+-- The four codes with their weights. Assumes nothing.
 use native.Mathlib.Omega.{arith}
 use denote.Ref.{now}
-use Rattle.rows.proofs.Making.{sides-four}
+use Rattle.rows.proofs.Making.{codes-four}
 use borrow.Author.Needs.{needs}
 use Rattle.rows.proofs.four.Statement.{statement}
 use Rattle.rows.proofs.four.Tie as tie
 
-side-at-requires : tie.Need-side-at-requires
-side-at-requires c κs = search needs
+code-at-requires : tie.Need-code-at-requires
+code-at-requires c κs = search needs
 
-add-side-at : tie.Need-add-side-at
-add-side-at c = search needs
+add-code-at : tie.Need-add-code-at
+add-code-at c = search needs
 
-side-at-requires-2 : tie.Need-side-at-requires-2
-side-at-requires-2 c κs = search needs
+code-at-requires-2 : tie.Need-code-at-requires-2
+code-at-requires-2 c κs = search needs
 
-add-side-at-2 : tie.Need-add-side-at-2
-add-side-at-2 c = search needs
+add-code-at-2 : tie.Need-add-code-at-2
+add-code-at-2 c = search needs
 
-side-at-requires-3 : tie.Need-side-at-requires-3
-side-at-requires-3 c κs = search needs
+code-at-requires-3 : tie.Need-code-at-requires-3
+code-at-requires-3 c κs = search needs
 
-add-side-at-3 : tie.Need-add-side-at-3
-add-side-at-3 c = search needs
+add-code-at-3 : tie.Need-add-code-at-3
+add-code-at-3 c = search needs
 
-side-at-requires-4 : tie.Need-side-at-requires-4
-side-at-requires-4 c κs = search needs
+code-at-requires-4 : tie.Need-code-at-requires-4
+code-at-requires-4 c κs = search needs
 
 mul-result : tie.Need-mul-result
 mul-result c = search needs
@@ -50,10 +50,10 @@ returns c =
     let a = c .before .before .before .before .args in (
       omega (
         arith,
-        c .before .before .before .side-at .ensures,
-        c .before .before .side-at2 .ensures,
-        c .before .side-at3 .ensures,
-        sides-four (now (a .samples)) (a .i),
+        c .before .before .before .code-at .ensures,
+        c .before .before .code-at2 .ensures,
+        c .before .code-at3 .ensures,
+        codes-four (now (a .samples)) (a .i),
       ),
       search needs,
     )
@@ -62,13 +62,13 @@ pub four-spec : {M : Type 1} → statement M
 four-spec =
     tie.close
     (tie.spec
-    side-at-requires
-    add-side-at
-    side-at-requires-2
-    add-side-at-2
-    side-at-requires-3
-    add-side-at-3
-    side-at-requires-4
+    code-at-requires
+    add-code-at
+    code-at-requires-2
+    add-code-at-2
+    code-at-requires-3
+    add-code-at-3
+    code-at-requires-4
     mul-result
     add-result
     mul-result-2

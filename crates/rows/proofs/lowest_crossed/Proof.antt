@@ -15,24 +15,24 @@ use Rattle.rows.proofs.lowest_crossed.Statement.{statement}
 use Rattle.rows.proofs.lowest_crossed.Tie as tie
 
 abbrev Inv-loop2 : tie.InvT-loop2
-Inv-loop2 rows sizes found₀ z y m n x₀ z-end y-end found x = Looking sizes m n found x
+Inv-loop2 rows may sizes found₀ z y m n x₀ z-end y-end found x = Looking sizes m n found x
 
 abbrev μ-loop2 : tie.MeasureT-loop2
-μ-loop2 rows sizes found₀ z y m n x₀ z-end y-end found x = n - x
+μ-loop2 rows may sizes found₀ z y m n x₀ z-end y-end found x = n - x
 
 abbrev Inv-loop : tie.InvT-loop
-Inv-loop rows sizes found₀ z y₀ z-end y-end found y =
-    Seeking sizes rows (sizes .ny - 1) found y ((sizes .nx - 1) * (y + (sizes .ny - 1) * z))
+Inv-loop rows may sizes found₀ z y₀ z-end y-end found y =
+    Seeking sizes rows may (sizes .ny - 1) found y ((sizes .nx - 1) * (y + (sizes .ny - 1) * z))
 
 abbrev μ-loop : tie.MeasureT-loop
-μ-loop rows sizes found₀ z y₀ z-end y-end found y = sizes .ny - 1 - y
+μ-loop rows may sizes found₀ z y₀ z-end y-end found y = sizes .ny - 1 - y
 
 abbrev Inv-sought : tie.InvT-sought
-Inv-sought rows sizes found₀ z₀ z-end found z =
-    Seeking sizes rows (sizes .nz - 1) found z ((sizes .nx - 1) * ((sizes .ny - 1) * z))
+Inv-sought rows may sizes found₀ z₀ z-end found z =
+    Seeking sizes rows may (sizes .nz - 1) found z ((sizes .nx - 1) * ((sizes .ny - 1) * z))
 
 abbrev μ-sought : tie.MeasureT-sought
-μ-sought rows sizes found₀ z₀ z-end found z = sizes .nz - 1 - z
+μ-sought rows may sizes found₀ z₀ z-end found z = sizes .nz - 1 - z
 
 -- the loops outside, and the function's entry
 abbrev outer : tie.At-loop2 Inv-loop2 μ-loop2 Inv-loop μ-loop Inv-sought μ-sought
@@ -45,7 +45,7 @@ outermost c = c .before .before .before
 
 abbrev entry : tie.At-sought Inv-loop2 μ-loop2 Inv-loop μ-loop Inv-sought μ-sought
     → tie.Start Inv-loop2 μ-loop2 Inv-loop μ-loop Inv-sought μ-sought
-entry c = c .before .before .before .before
+entry c = c .before .before .before .before .before
 
 abbrev first : tie.At-loop Inv-loop2 μ-loop2 Inv-loop μ-loop Inv-sought μ-sought
     → tie.Start Inv-loop2 μ-loop2 Inv-loop μ-loop Inv-sought μ-sought
@@ -59,7 +59,7 @@ short c =
     omega (arith, c .before .to-look-at .ensures, looked-le (c .before .before .before .crossed-cubes .result) n)
 
 cube-count-requires : tie.Need-cube-count-requires Inv-loop2 μ-loop2 Inv-loop μ-loop Inv-sought μ-sought
-cube-count-requires c κs = c .before .pre .0
+cube-count-requires c κs = c .before .before .pre .0
 
 sub-z-end : tie.Need-sub-z-end Inv-loop2 μ-loop2 Inv-loop μ-loop Inv-sought μ-sought
 sub-z-end c = omega arith
@@ -76,7 +76,7 @@ loop-holds c =
 
 crossed-cubes-requires :
     tie.Need-crossed-cubes-requires Inv-loop2 μ-loop2 Inv-loop μ-loop Inv-sought μ-sought
-crossed-cubes-requires c κs = let s = first (c .before) in (s .pre .0, s .pre .1, omega arith, omega arith)
+crossed-cubes-requires c κs = let s = first (c .before) in ((s .pre .0, s .pre .1, s .pre .2), (omega arith, omega arith))
 
 sub-to-look-at : tie.Need-sub-to-look-at Inv-loop2 μ-loop2 Inv-loop μ-loop Inv-sought μ-sought
 sub-to-look-at c = omega arith
@@ -127,7 +127,7 @@ loop-again c =
     record {
       upto = omega arith;
       none = l .loop2 .inv .none;
-      clear = λ j h. clear-row (a .sizes) (now (a .rows)) (m .result) (k .y) z (a .sizes .nx - 1) (m .ensures) (omega arith) (omega arith)
+      clear = λ j h. clear-row (a .sizes) (now (a .rows)) (now (a .may)) (m .result) (k .y) z (a .sizes .nx - 1) (m .ensures) (omega arith) (omega arith)
           (k .inv .clear) none j (omega arith);
     }
 
@@ -151,7 +151,7 @@ returns c s h =
     let b = entry (c .before) in
     let L = lattice (b .args .sizes) s in
     let e = full L ((b .args .sizes .nx - 1) * ((b .args .sizes .ny - 1) * l .z)) (l .z) (omega arith) refl in
-    l .inv .none ∙ none-lowest L (now (b .args .rows)) (b .pre .0) h (λ j g. l .inv .clear j (omega arith))
+    l .inv .none ∙ none-lowest L (now (b .args .rows)) (now (b .args .may)) (b .pre .0) h (λ j g. l .inv .clear j (omega arith))
 
 -- the cube that is found
 cube-in : (c : tie.Then1 Inv-loop2 μ-loop2 Inv-loop μ-loop Inv-sought μ-sought)
@@ -182,10 +182,11 @@ returns-2 c s h =
     let hx : x < b .args .sizes .nx - 1 = omega (arith, short l) in
     let n = b .args .sizes in
     let ws = now (b .args .rows) in
+    let vs = now (b .args .may) in
     c .cube-no .ensures .0
-    ∙ found-lowest (lattice n s) ws (b .pre .0) h (place x (k .y) z) (cube-in t)
-    (clear-row n ws (m .result) (k .y) z x (m .ensures) (omega arith) (omega arith) (k .inv .clear) (l .loop2 .inv .clear))
-    (sym (row-bit n ws (m .result) (k .y) z x (m .ensures) hx) ∙ (sym (t .before .has-bit .ensures) ∙ t .if1 .taken))
+    ∙ found-lowest (lattice n s) ws vs (b .pre .0) h (place x (k .y) z) (cube-in t)
+    (clear-row n ws vs (m .result) (k .y) z x (m .ensures) (omega arith) (omega arith) (k .inv .clear) (l .loop2 .inv .clear))
+    (sym (row-bit n ws vs (m .result) (k .y) z x (m .ensures)) ∙ (sym (t .before .has-bit .ensures) ∙ t .if1 .taken))
 
 pub lowest-crossed-spec : {M : Type 1} → statement M
 lowest-crossed-spec =

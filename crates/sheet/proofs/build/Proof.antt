@@ -19,31 +19,37 @@ before s =
 -- ── stages ──
 
 abbrev start : tie.After-begin → tie.Start
-start c = c .before .before .before .before .before .before
+start c = c .before .before .before .before .before .before .before
 
 abbrev begun : tie.Else1 → tie.After-begin
-begun c = c .before .before .before
+begun c = c .before .before .before .before
 
 slice-aggregate-begin : tie.Need-slice-aggregate-begin
 slice-aggregate-begin c = search needs
+
+slice-aggregate-begin-2 : tie.Need-slice-aggregate-begin-2
+slice-aggregate-begin-2 c = search needs
 
 begin-requires : tie.Need-begin-requires
 begin-requires c κs = search needs
 
 returns : tie.Need-returns
 returns c =
-    let b = c .before .before .before in
+    let b = c .before .before .before .before in
     let s = start b in
     refused (L s) (s .args .start) (before s) (b .begin .result .number) (b .begin .ensures .answer) (c .if1 .taken)
 
 slice-aggregate-build-from : tie.Need-slice-aggregate-build-from
 slice-aggregate-build-from c = search needs
 
+slice-aggregate-build-from-2 : tie.Need-slice-aggregate-build-from-2
+slice-aggregate-build-from-2 c = search needs
+
 build-from-requires : tie.Need-build-from-requires
 build-from-requires c κs =
-    let e = c .before .before .before .before .before .before in
+    let e = c .before .before .before .before .before .before .before in
     let b = begun e .begin .ensures .begins (e .if1 .left) in
-    (b .full, b .sides, b .below, b .roomy)
+    (b .full, b .both, b .below, b .crosses, b .roomy)
 
 same-length : tie.Need-same-length
 same-length c = search needs
@@ -63,7 +69,7 @@ same-length-5 c = search needs
 returns-2 : tie.Need-returns-2
 returns-2 c =
     let at-build = c .before .before .before .before .before .before .before .before .before in
-    let e = at-build .before .before .before .before .before .before .before in
+    let e = at-build .before .before .before .before .before .before .before .before in
     let b = begun e .begin in
     let s = start (begun e) in
     settled (L s) (s .args .start) (before s) (sym (b .ensures .answer) ∙ e .if1 .left) (b .result .cube) (b .ensures .begins (e .if1 .left) .is) _ _
@@ -74,9 +80,11 @@ build-spec =
     tie.close
     (tie.spec
     slice-aggregate-begin
+    slice-aggregate-begin-2
     begin-requires
     returns
     slice-aggregate-build-from
+    slice-aggregate-build-from-2
     build-from-requires
     same-length
     same-length-2

@@ -3,6 +3,7 @@ use borrow.Author.Needs.{needs}
 use native.Mathlib.Omega.{arith}
 use denote.Ref.{now}
 use Rattle.paper.specs.Lattice.{Lattice, lattice}
+use Rattle.paper.proofs.Visits.{crossed-visitable}
 use Rattle.spread.proofs.Ways.{words-le}
 use Rattle.spread.proofs.Joining.{fresh}
 use Rattle.sheet.specs.Output.{output}
@@ -16,7 +17,7 @@ L s = lattice (s .args .sizes) (now (s .args .samples))
 -- ── stages ──
 
 abbrev start : tie.After-visit → tie.Start
-start c = c .before .before .before .before .before .before .before .before
+start c = c .before .before .before .before .before .before .before .before .before
 
 abbrev visited : tie.After-counts-of → tie.After-visit
 visited c = c .before .before .before .before .before
@@ -26,9 +27,9 @@ slice-aggregate-visit c = search needs
 
 visit-requires : tie.Need-visit-requires
 visit-requires c κs =
-    let s = c .before .before .before .before .before .before .before in
+    let s = c .before .before .before .before .before .before .before .before in
     let p = s .pre in
-    ((p .0 .sized, p .2, p .1 .long), (fresh (s .args .sizes) (p .0 .sized), p .3 .waiting))
+    ((p .0 .sized, p .2, p .1 .sides .long, p .1 .free .long), (fresh (s .args .sizes) (p .0 .sized), p .4 .waiting))
 
 slice-aggregate-counts-of : tie.Need-slice-aggregate-counts-of
 slice-aggregate-counts-of c = search needs
@@ -37,7 +38,7 @@ counts-of-requires : tie.Need-counts-of-requires
 counts-of-requires c κs =
     let s = start (c .before .before .before .before) in
     let p = s .pre in
-    (p .0 .sized, p .1 .long, omega (arith, words-le (s .args .sizes) (p .0 .sized), c .before .before .before .before .visit .kept))
+    (p .0 .sized, p .1 .sides .long, omega (arith, words-le (s .args .sizes) (p .0 .sized), c .before .before .before .before .visit .kept))
 
 room-number-requires : tie.Need-room-number-requires
 room-number-requires c κs = search needs
@@ -53,9 +54,9 @@ put-sheet-requires c κs =
     let s = start at-visit in
     let p = s .pre in
     let found = at-visit .visit .ensures in (
-      (p .0, record { start = s .args .k; stands = found .stands _ (p .1) }),
+      (p .0, record { start = s .args .k; stands = found .stands _ (p .1) (crossed-visitable (L s) (s .args .k) (p .3)) }),
       (
-        (omega (arith, words-le (s .args .sizes) (p .0 .sized), at-visit .visit .kept), p .3 .slots),
+        (omega (arith, words-le (s .args .sizes) (p .0 .sized), at-visit .visit .kept), p .4 .slots),
         fits (L s) _ _ _ (at-counts .counts-of .ensures) (at-number .room-number .result) _ _ (at-number .room-number .ensures),
       ),
     )
@@ -65,7 +66,7 @@ clear-work-requires c κs =
     let at-sheet = c .before .before .before .before .before .before .before .before in
     let at-visit = visited (at-sheet .before .before .before .before .before .before) in
     let s = start at-visit in
-    let r = s .pre .3 in (
+    let r = s .pre .4 in (
       s .pre .0 .sized,
       record {
         words = r .words;
@@ -99,8 +100,9 @@ returns c =
     let s = start at-visit in
     let found = at-visit .visit .ensures in
     let h = s .pre .1 in
-    builds-from (L s) _ _ _ (at-counts .counts-of .ensures) (s .args .k) (found .stands _ h) _ _ (at-number .room-number .result)
-    (found .number _ h) (at-number .room-number .ensures) (output _ _) (at-sheet .put-sheet .ensures .0) _ _ (found .beyond)
+    let t = crossed-visitable (L s) (s .args .k) (s .pre .3) in
+    builds-from (L s) _ _ _ (at-counts .counts-of .ensures) (s .args .k) (found .stands _ h t) _ _ (at-number .room-number .result)
+    (found .number _ h t) (at-number .room-number .ensures) (output _ _) (at-sheet .put-sheet .ensures .0) _ _ (found .beyond)
     (at-sheet .put-sheet .ensures .1) _ (at-clear .clear-work .ensures)
 
 pub build-from-spec : {M : Type 1} → statement M

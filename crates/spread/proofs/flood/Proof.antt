@@ -18,11 +18,11 @@ use Rattle.spread.proofs.flood.Statement.{statement}
 use Rattle.spread.proofs.flood.Tie as tie
 
 abbrev Inv-loop : tie.InvT-loop
-Inv-loop rows z row x vis₀ due₀ waiting₀ h₀ seen₀ vis due waiting h seen = Flooding z rows row x vis₀ due₀ waiting₀ vis
+Inv-loop rows may z row x vis₀ due₀ waiting₀ h₀ seen₀ vis due waiting h seen = Flooding z rows may row x vis₀ due₀ waiting₀ vis
     (flow due waiting h) seen
 
 abbrev μ-loop : tie.MeasureT-loop
-μ-loop rows z row x vis₀ due₀ waiting₀ h₀ seen₀ vis due waiting h seen = 5 * (64 * words z - lit (words z) vis) + h
+μ-loop rows may z row x vis₀ due₀ waiting₀ h₀ seen₀ vis due waiting h seen = 5 * (64 * words z - lit (words z) vis) + h
 
 -- places: where the first row waits, and where the function begins
 abbrev waited : tie.At-loop Inv-loop μ-loop → tie.After-wait-row Inv-loop μ-loop
@@ -32,7 +32,7 @@ abbrev shifted : tie.After-wait-row Inv-loop μ-loop → tie.After-wait-row-arg 
 shifted c = c .before .before
 
 abbrev begun : tie.After-wait-row Inv-loop μ-loop → tie.Start Inv-loop μ-loop
-begun c = shifted c .before .before .before .before .before
+begun c = shifted c .before .before .before .before .before .before
 
 abbrev start : tie.At-loop Inv-loop μ-loop → tie.Start Inv-loop μ-loop
 start c = begun (waited c)
@@ -48,7 +48,7 @@ at l = getD (l .before .loop .waiting) (l .before .loop .h - 1) 0
 popped : (l : tie.In-loop Inv-loop μ-loop) → RowIn (start (l .before) .args .z) (at l)
 popped l =
     let s = start (l .before) in
-    at-row (s .args .z) (now (s .args .rows)) (s .args .row) (s .args .x) (s .pre .0 .0) (s .pre .0 .1) (s .pre .0 .2) _ _ _ _ _ _ _ _ _
+    at-row (s .args .z) (now (s .args .rows)) (now (s .args .may)) (s .args .row) (s .args .x) (s .pre .0 .0) (s .pre .0 .1) (s .pre .0 .2) _ _ _ _ _ _ _ _ _
     (some l) (l .before .loop .inv)
 
 popped-lt : (l : tie.In-loop Inv-loop μ-loop) → let z = start (l .before) .args .z in (at l < words z) × (at l < 4097)
@@ -58,7 +58,7 @@ popped-lt l =
 
 -- the row is filled
 abbrev inside : tie.After-filled Inv-loop μ-loop → tie.In-loop Inv-loop μ-loop
-inside c = c .before .before .before .before .before .before
+inside c = c .before .before .before .before .before .before .before
 
 full-lt : (c : tie.After-filled Inv-loop μ-loop) → c .filled .result < 2 ^ 64
 full-lt c = omega (arith, c .filled .ok)
@@ -69,16 +69,15 @@ roomy : (c : tie.After-filled Inv-loop μ-loop) → let l = inside c in
 roomy c =
     let l = inside c in
     let s = start (l .before) in
-    at-roomy (s .args .z) (now (s .args .rows)) (s .args .row) (s .args .x) (s .pre .0 .0) (s .pre .0 .1) (s .pre .0 .2) _ _ _ _ _ _ _ _ _
-    (some l) (l .before .loop .inv) _ (c .before .before .before .before .quad-at .ensures) _ _ (c .before .gate .ensures) (full-lt c)
+    at-roomy (s .args .z) (now (s .args .rows)) (now (s .args .may)) (s .args .row) (s .args .x) (s .pre .0 .0) (s .pre .0 .1) (s .pre .0 .2) _ _ _ _ _ _ _ _ _
+    (some l) (l .before .loop .inv) _ (c .before .before .before .before .before .quad-at .ensures) _ _ (c .before .gate-row .ensures) (full-lt c)
     (c .filled .ensures)
 
 -- what is so where the loop is left
 left : (c : tie.After-loop Inv-loop μ-loop) → let s = start (c .before) in
     let z = s .args .z in
-    let m = now (s .args .rows) in
     let l = c .before .loop in
-    Flooded (planOf z m) (cell (s .args .row) (s .args .x)) (room (now (s .args .vis)) (now (s .args .waiting)))
+    Flooded (planOf z (now (s .args .rows)) (now (s .args .may))) (cell (s .args .row) (s .args .x)) (room (now (s .args .vis)) (now (s .args .waiting)))
     (room (l .vis) (l .waiting)) (l .seen)
     × Empty (words z) (l .due) × Beyond (words z) (now (s .args .due)) (l .due)
 left c =
@@ -86,24 +85,24 @@ left c =
     let s = begun w in
     let l = c .before .loop in
     let z = s .args .z in
-    let k = first-kept (s .args .z) (now (s .args .rows)) (s .args .row) (s .args .x) (s .pre .0 .0) (s .pre .0 .1) (s .pre .0 .2)
+    let k = first-kept (s .args .z) (now (s .args .rows)) (now (s .args .may)) (s .args .row) (s .args .x) (s .pre .0 .0) (s .pre .0 .1) (s .pre .0 .2)
     (now (s .args .due)) (now (s .args .waiting)) _ _ (s .pre .1 .1) (s .pre .1 .2) (w .wait-row .ensures) in
     let e : l .h ≡ 0 = omega arith in (
-      flooding-done (s .args .z) (now (s .args .rows)) (s .args .row) (s .args .x) (s .pre .0 .0) (s .pre .0 .1) (s .pre .0 .2)
+      flooding-done (s .args .z) (now (s .args .rows)) (now (s .args .may)) (s .args .row) (s .args .x) (s .pre .0 .0) (s .pre .0 .1) (s .pre .0 .2)
           (now (s .args .vis)) _ (now (s .args .waiting)) _ _ (l .vis) (flow (l .due) (l .waiting) (l .h)) (l .seen) e (l .inv)
           (beyond-refl (words z) (now (s .args .vis))) (k .on-waiting),
-      due-done (s .args .z) (now (s .args .rows)) (s .args .row) (s .args .x) (s .pre .0 .0) (s .pre .0 .1) (s .pre .0 .2)
+      due-done (s .args .z) (now (s .args .rows)) (now (s .args .may)) (s .args .row) (s .args .x) (s .pre .0 .0) (s .pre .0 .1) (s .pre .0 .2)
           (now (s .args .vis)) _ (now (s .args .waiting)) _ _ (l .vis) (flow (l .due) (l .waiting) (l .h)) (l .seen) e (l .inv)
           (beyond-refl (words z) (now (s .args .vis))) (k .on-waiting),
       beyond-trans (k .on-due) (l .inv .on-due),
     )
 
 shl-wait-row : tie.Need-shl-wait-row Inv-loop μ-loop
-shl-wait-row c = omega (arith, c .before .before .before .before .before .before .pre .0 .2)
+shl-wait-row c = omega (arith, c .before .before .before .before .before .before .before .pre .0 .2)
 
 wait-row-requires : tie.Need-wait-row-requires Inv-loop μ-loop
 wait-row-requires c κs =
-    let s = c .before .before .before .before .before .before in
+    let s = c .before .before .before .before .before .before .before in
     let l = row-lt (s .args .z) (s .args .row) (s .pre .0 .1) in (
       omega (arith, s .pre .1 .1 .fit),
       omega (arith, words-le (s .args .z) (s .pre .0 .0)),
@@ -115,7 +114,7 @@ loop-holds : tie.Need-loop-holds Inv-loop μ-loop
 loop-holds c =
     let w = c .before .before .before .before in
     let s = begun w in
-    flooding-start (s .args .z) (now (s .args .rows)) (s .args .row) (s .args .x) (s .pre .0 .0) (s .pre .0 .1) (s .pre .0 .2)
+    flooding-start (s .args .z) (now (s .args .rows)) (now (s .args .may)) (s .args .row) (s .args .x) (s .pre .0 .0) (s .pre .0 .1) (s .pre .0 .2)
     (now (s .args .vis)) (now (s .args .due)) (now (s .args .waiting)) _ (s .pre .1 .0) (s .pre .1 .1) (s .pre .1 .2)
     (w .wait-row .ensures)
 
@@ -135,22 +134,28 @@ quad-at-requires : tie.Need-quad-at-requires Inv-loop μ-loop
 quad-at-requires c κs = let s = start (c .before .before) in omega
     (arith, row-quad (s .args .z) (at (c .before)) (popped (c .before)), s .pre .0 .3)
 
+mul-m : tie.Need-mul-m Inv-loop μ-loop
+mul-m c = omega (arith, popped-lt (c .before .before) .1)
+
+shared-slice-read-m : tie.Need-shared-slice-read-m Inv-loop μ-loop
+shared-slice-read-m c = let l = c .before .before .before in omega (arith, popped-lt l .0, start (l .before) .pre .0 .4)
+
 mul-v : tie.Need-mul-v Inv-loop μ-loop
-mul-v c = omega (arith, popped-lt (c .before .before) .1)
+mul-v c = omega (arith, popped-lt (c .before .before .before) .1)
 
 slice-read-v : tie.Need-slice-read-v Inv-loop μ-loop
-slice-read-v c = omega (arith, popped-lt (c .before .before .before) .0, c .before .before .before .before .loop .inv .going .vis-fit)
+slice-read-v c = let l = c .before .before .before .before in omega (arith, popped-lt l .0, l .before .loop .inv .going .vis-fit)
 
 mul-filled : tie.Need-mul-filled Inv-loop μ-loop
-mul-filled c = omega (arith, popped-lt (c .before .before .before) .1)
+mul-filled c = omega (arith, popped-lt (c .before .before .before .before) .1)
 
 slice-read-filled : tie.Need-slice-read-filled Inv-loop μ-loop
 slice-read-filled c =
-    let l = c .before .before .before .before in
+    let l = c .before .before .before .before .before in
     omega (arith, popped-lt l .0, l .before .loop .inv .going .roomy .due-fit)
 
-gate-requires : tie.Need-gate-requires Inv-loop μ-loop
-gate-requires c κs = start (c .before .before .before .before .before) .pre .0 .0
+gate-row-requires : tie.Need-gate-row-requires Inv-loop μ-loop
+gate-row-requires c κs = search needs
 
 filled-requires : tie.Need-filled-requires Inv-loop μ-loop
 filled-requires c κs = search needs
@@ -178,9 +183,9 @@ add-seen c =
     omega (
       arith,
       c .ones .ensures .0,
-      seen-le (s .args .z) (now (s .args .rows)) (s .args .row) (s .args .x) (s .pre .0 .0) (s .pre .0 .1)
-          (s .pre .0 .2) _ _ _ _ _ _ _ _ _ (some l) (l .before .loop .inv) _ (f .before .before .before .before .quad-at .ensures) _ _
-          (f .before .gate .ensures) (full-lt f)
+      seen-le (s .args .z) (now (s .args .rows)) (now (s .args .may)) (s .args .row) (s .args .x) (s .pre .0 .0) (s .pre .0 .1)
+          (s .pre .0 .2) _ _ _ _ _ _ _ _ _ (some l) (l .before .loop .inv) _ (f .before .before .before .before .before .quad-at .ensures) _ _
+          (f .before .gate-row .ensures) (full-lt f)
           (f .filled .ensures),
     )
 
@@ -189,7 +194,7 @@ pass-doors-requires c κs =
     let f = c .before .before .before .before in
     let l = inside f in
     let s = start (l .before) in
-    ((s .pre .0 .0, popped l, simp length-set (l .before .loop .inv .going .vis-fit)), roomy f)
+    ((s .pre .0 .0, popped l, simp length-set (l .before .loop .inv .going .vis-fit), s .pre .0 .4), roomy f)
 
 loop-less : tie.Need-loop-less Inv-loop μ-loop
 loop-less c =
@@ -198,9 +203,9 @@ loop-less c =
     let f = o .before in
     let l = inside f in
     let s = start (l .before) in
-    less-left (s .args .z) (now (s .args .rows)) (s .args .row) (s .args .x) (s .pre .0 .0) (s .pre .0 .1)
-    (s .pre .0 .2) _ _ _ _ _ _ _ _ _ (some l) (l .before .loop .inv) _ (f .before .before .before .before .quad-at .ensures) _ _
-    (f .before .gate .ensures) (full-lt f)
+    less-left (s .args .z) (now (s .args .rows)) (now (s .args .may)) (s .args .row) (s .args .x) (s .pre .0 .0) (s .pre .0 .1)
+    (s .pre .0 .2) _ _ _ _ _ _ _ _ _ (some l) (l .before .loop .inv) _ (f .before .before .before .before .before .quad-at .ensures) _ _
+    (f .before .gate-row .ensures) (full-lt f)
     (f .filled .ensures) _ (a .pass-doors .ensures)
 
 loop-again : tie.Need-loop-again Inv-loop μ-loop
@@ -210,9 +215,9 @@ loop-again c =
     let f = o .before in
     let l = inside f in
     let s = start (l .before) in
-    flooding-more (s .args .z) (now (s .args .rows)) (s .args .row) (s .args .x) (s .pre .0 .0) (s .pre .0 .1)
-    (s .pre .0 .2) _ _ _ _ _ _ _ _ _ (some l) (l .before .loop .inv) _ (f .before .before .before .before .quad-at .ensures) _ _
-    (f .before .gate .ensures) (full-lt f)
+    flooding-more (s .args .z) (now (s .args .rows)) (now (s .args .may)) (s .args .row) (s .args .x) (s .pre .0 .0) (s .pre .0 .1)
+    (s .pre .0 .2) _ _ _ _ _ _ _ _ _ (some l) (l .before .loop .inv) _ (f .before .before .before .before .before .quad-at .ensures) _ _
+    (f .before .gate-row .ensures) (full-lt f)
     (f .filled .ensures) _ (a .pass-doors .ensures) _ (o .ones .ensures .0)
 
 same-length : tie.Need-same-length Inv-loop μ-loop
@@ -241,11 +246,13 @@ flood-spec =
     slice-read-r
     cast-r
     quad-at-requires
+    mul-m
+    shared-slice-read-m
     mul-v
     slice-read-v
     mul-filled
     slice-read-filled
-    gate-requires
+    gate-row-requires
     filled-requires
     mul-due
     slice-write-due

@@ -1,8 +1,11 @@
 -- The place of a cube is a row and a place of it; words that were never written are 0. Assumes nothing.
+use mathlib.Core.Path.{subst}
 use native.Mathlib.Omega.{arith}
+use lib.Dec.{T}
 use denote.Ref.{now}
-use Rattle.paper.specs.Lattice.{lattice}
-use Rattle.paper.proofs.Visits.{in-visitable}
+use Rattle.paper.specs.declared.Place.{Place}
+use Rattle.paper.specs.Lattice.{lattice, visitable}
+use Rattle.paper.proofs.Numbers.{cube-place}
 use Rattle.spread.specs.Ways.{planOf}
 use Rattle.spread.proofs.Visiting.{visits}
 use Rattle.spread.proofs.Joining.{row-of, row-small, fresh, joined}
@@ -12,14 +15,14 @@ use Rattle.spread.proofs.flood_from.Tie as tie
 
 -- places: where the function begins, and the flood
 abbrev entry : tie.After-struct-known3 → tie.Start
-entry c = c .before .before .before .before .before .before
+entry c = c .before .before .before .before .before .before .before
 
 abbrev lending : tie.After-flood-arg2 → tie.Start
 lending c = entry (c .before .before .before)
 
 mul-flood : tie.Need-mul-flood
 mul-flood c =
-    let s = c .before .before .before .before .before in
+    let s = c .before .before .before .before .before .before in
     omega (arith, row-small (s .args .z) (s .args .at) (s .pre .0 .0) (s .pre .0 .1))
 
 add-flood : tie.Need-add-flood
@@ -35,7 +38,7 @@ flood-requires c κs =
     let s = lending c in
     let z = s .args .z in
     let p = s .pre .0 in
-    ((p .0, row-of z (s .args .at) (p .1), omega (arith, p .0 .x-high, p .1 .x), p .2), (s .pre .1 .0, fresh z (p .0), s .pre .1 .1))
+    ((p .0, row-of z (s .args .at) (p .1), omega (arith, p .0 .x-high, p .1 .x), p .2, p .3), (s .pre .1 .0, fresh z (p .0), s .pre .1 .1))
 
 same-length : tie.Need-same-length
 same-length c = search needs
@@ -48,13 +51,15 @@ returns c =
     let f = c .before .before .before .before .before in
     let b = lending (f .before) in
     let z = b .args .z in
-    let ws = now (b .args .rows) in
+    let at = b .args .at in
+    let p = b .pre .0 in
     let F = f .flood .ensures .0 in
+    let e = cube-place z at (omega (arith, p .1 .x)) (omega (arith, p .1 .y)) in
     record {
-      visits = λ s h.
+      visits = λ s h t.
           let L = lattice z s in
-          visits L (b .pre .0 .0) (planOf z ws) (joined L (b .pre .0 .0) ws h) (b .args .at)
-          (in-visitable L (b .args .at) (b .pre .0 .1)) _ _ _ F;
+          visits L (p .0) (planOf z (now (b .args .rows)) (now (b .args .may))) (joined L (p .0) (now (b .args .rows)) (now (b .args .may)) h) at
+          (subst (λ (q : Place). T (visitable L q)) e t) _ _ _ F;
       on-vis = F .on-vis;
       on-waiting = F .on-waiting;
     }

@@ -4,11 +4,12 @@ use mathlib.Core.List.{List}
 use Prim.Native.Nat.{ℕ, _+_, _-_, _≤_}
 use native.Mathlib.Omega.{arith}
 use native.Mathlib.Nat.{mul-le-mul}
+use lib.Dec.{T}
 use lib.ListN.{length, drop}
 use lib.Seq.{drop-drop}
 use Rattle.lists.specs.Lists.{Beyond}
 use Rattle.paper.specs.declared.Sizes.{Sizes}
-use Rattle.paper.specs.Lattice.{Lattice, lattice, cubes, cubeNo, visited}
+use Rattle.paper.specs.Lattice.{Lattice, lattice, cubes, cubeNo, cubeAt, visitable, visited}
 use Rattle.paper.specs.Room.{needed}
 use Rattle.paper.specs.Within.{Sized}
 use Rattle.paper.proofs.Numbers.{cube-back}
@@ -40,8 +41,11 @@ beyond-more m n l₀ l h b =
 from-same : (L : Lattice) (j k : ℕ) → j ≡ k → (vis : List ℕ) → HasCubes (L .size) (visited L j) vis → HasCubes (L .size) (visited L k) vis
 from-same L j k e vis h = subst (λ (k : ℕ). HasCubes (L .size) (visited L k) vis) e h
 
+may-same : (L : Lattice) (j k : ℕ) → j ≡ k → T (visitable L (cubeAt (L .size) k)) → T (visitable L (cubeAt (L .size) j))
+may-same L j k e t = subst (λ (k : ℕ). T (visitable L (cubeAt (L .size) k))) (sym e) t
+
 abbrev start : tie.After-cube-at → tie.Start
-start c = c .before .before .before .before
+start c = c .before .before .before .before .before
 
 cube-at-requires : tie.Need-cube-at-requires
 cube-at-requires c κs = search needs
@@ -51,7 +55,7 @@ flood-from-requires c κs =
     let at-cube = c .before .before in
     let s = start at-cube in
     let p = s .pre .0 in (
-      (p .0, at-cube .cube-at .ensures .1, p .2),
+      (p .0, at-cube .cube-at .ensures .1, p .2, p .3),
       (s .pre .1 .0, omega (arith, rows-few (s .args .z) (p .0), s .pre .1 .1)),
     )
 
@@ -72,13 +76,14 @@ returns c =
     let e : cubeNo z (at-cube .cube-at .result) ≡ b .args .k =
     ap (cubeNo z) (at-cube .cube-at .ensures .0) ∙ cube-back z (p .0) (b .args .k) (p .1) in
     record {
-      stands = λ s h.
+      stands = λ s h t.
           record {
             below = p .1;
-            sides = h;
-            cubes = from-same (lattice z s) _ _ e _ (f .ensures .visits s h .cubes);
+            sides = h .sides;
+            cubes = from-same (lattice z s) _ _ e _ (f .ensures .visits s h (may-same (lattice z s) _ _ e t) .cubes);
           };
-      number = λ s h. f .ensures .visits s h .number ∙ ap (λ (k : ℕ). length (visited (lattice z s) k)) e;
+      number = λ s h t.
+          f .ensures .visits s h (may-same (lattice z s) _ _ e t) .number ∙ ap (λ (k : ℕ). length (visited (lattice z s) k)) e;
       beyond = beyond-more _ _ _ _ (rows-few z (p .0)) (f .ensures .on-waiting);
     }
 

@@ -40,7 +40,7 @@ fn main() -> ExitCode {
             );
             for ((name, number), count) in counts {
                 let what = if name == "tool" { "status" } else { "number" };
-                println!("{name:9} {what} {number:2}: {count}");
+                println!("{name:11} {what} {number:2}: {count}");
             }
             let _ = std::fs::remove_dir_all(folder);
             ExitCode::SUCCESS

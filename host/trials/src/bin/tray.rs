@@ -23,7 +23,10 @@ fn main() -> ExitCode {
     match written {
         Ok(()) => {
             let [nx, ny, nz] = volume.sizes;
-            println!("tray.raw: {nx} x {ny} x {nz} greys of 16 bits, air below {}", tray::LEVEL);
+            let (level, unseen) = (tray::LEVEL, tray::UNSEEN);
+            println!(
+                "tray.raw: {nx} x {ny} x {nz} greys of 16 bits, air below {level}, {unseen} where nothing is seen"
+            );
             ExitCode::SUCCESS
         }
         Err(error) => {
