@@ -76,5 +76,19 @@ show malxuqeed stl housing-2.sheet housing-2.stl
 show malxuqeed stl $pore.sheet $pore.stl
 begin 3 malxuqeed facets $pore.stl
 say ""
+say "6. From floats. The new reconstruction writes 32-bit floats. Air is at 20 and material at 136.25; 256 steps of a sample for a" \
+    "   step of grey give the volume that the greys gave without --fill, byte for byte, and the same way leads on: build, check, STL."
+show malxuqeed convert tray.flt floats.vol --air 20 --material 136.25 --scale 256
+show cmp walls.vol floats.vol
+start=$(sed -n "s/.*$pore.sheet //p" manifest.txt)
+show malxuqeed build floats.vol floats.sheet --start "$start"
+show malxuqeed check floats.vol floats.sheet --start "$start"
+show malxuqeed stl floats.sheet floats.stl
+say "   A level is refused where air is not below material, and a voxel that is no number with its place."
+show malxuqeed convert tray.flt floats.vol --air 136.25 --material 20
+cp tray.flt hole.flt
+printf '\377\377\377\377' | dd of=hole.flt bs=1 seek=$((6 + 4 * 70000)) conv=notrunc 2>/dev/null
+show malxuqeed convert hole.flt floats.vol --level 78.125
+say ""
 say "All files are in host/target/demo: look at wall.png, $pore.png, sorted.png and audit.html, and at housing-2.stl in a viewer." \
     "'malxuqeed help' tells what else there is, and docs/MANUAL.md how to go on with a scan of your own."

@@ -1,7 +1,8 @@
-/* malxuqeed.h: the proved mesher, writer, reader and checker of sheets, and writer and reader of binary STL, for C and C++.
+/* malxuqeed.h: the proved mesher, writer, reader and checker of sheets, writer and reader of binary STL, and converter of volumes
+ * in f32, for C and C++.
  *
  * Each function is proved to be safe on every input, to end, and to give exactly the answer and the refusal that document 01
- * says, and for STL document 02 (i). Nothing is asked of a caller but this:
+ * says, for STL document 02 (i), for volumes in f32 document 02 (vii). Nothing is asked of a caller but this:
  *
  *   - each pointer leads to as many elements as the length behind it says (0 elements need no place: any pointer will do);
  *   - NO SLICE OVERLAPS ANOTHER that the same call may write to (samples and bytes that are only read may be shared between
@@ -50,7 +51,10 @@ typedef enum {
     MALXUQEED_VERTEX = 17,
     MALXUQEED_TRIANGLE = 18,
     MALXUQEED_ABSENT = 19,
-    MALXUQEED_COORDINATE = 25
+    MALXUQEED_GREY = 21,
+    MALXUQEED_ORDER = 22,
+    MALXUQEED_COORDINATE = 25,
+    MALXUQEED_SCALE = 26
 } malxuqeed_number;
 
 static inline const char *malxuqeed_meaning(size_t number)
@@ -77,8 +81,11 @@ static inline const char *malxuqeed_meaning(size_t number)
     case MALXUQEED_TRIANGLE:
         return "a triangle of the sheet file is not on this surface, faces the wrong way, or comes twice";
     case MALXUQEED_ABSENT: return "a vertex or a triangle of this surface is missing from the sheet file";
+    case MALXUQEED_GREY: return "a grey or a voxel is not a number, or lies beyond 65,536 on either side of 0";
+    case MALXUQEED_ORDER: return "the grey of air is not below that of material";
     case MALXUQEED_COORDINATE:
         return "a triangle has a coordinate outside 0 to 4,128,768, or a facet a float that no such coordinate gives";
+    case MALXUQEED_SCALE: return "the scale is not a power of two from 1 to 256";
     default: return "a number that no document names";
     }
 }
@@ -90,6 +97,15 @@ static inline const char *malxuqeed_stl_meaning(size_t number)
     case MALXUQEED_TRIANGLE_ROOM: return "the STL file has more facets than there is room for";
     case MALXUQEED_COUNT: return "a count is larger than what was given, or than a sheet may have";
     case MALXUQEED_LAYOUT: return "the length of the STL file is not what its facet count asks for";
+    default: return malxuqeed_meaning(number);
+    }
+}
+
+/* The same where a volume in f32 is converted. */
+static inline const char *malxuqeed_convert_meaning(size_t number)
+{
+    switch (number) {
+    case MALXUQEED_SAMPLES: return "there are not as many samples as voxels, or voxels as the sizes ask for";
     default: return malxuqeed_meaning(number);
     }
 }
@@ -155,6 +171,15 @@ malxuqeed_wrote malxuqeed_stl_write(size_t nv, size_t nt, const int32_t *vertice
  * in 1/65536 of a sample step, in the sheet's corner order. Header, normals and attributes are not looked at. Tests 14, 25, 7;
  * the place is that of the first wrong facet at 25, else 0. Answers how many facets, 0 where it refuses. */
 malxuqeed_loaded malxuqeed_stl_read(const uint8_t *bytes, size_t bytes_len, int32_t *corners, size_t corners_len);
+
+/* Converts voxels in f32 to samples, one for each. The level is grey; where halfway is true it is halfway between grey, which is
+ * then that of air, and material (their sum divided by two); else material is not looked at. A sample is level - voxel, rounded
+ * as f32 does, times scale (1, 2, 4 .. 256), cut towards zero and held to -32767 .. 32767; where level - voxel is above 0 it is at
+ * least 1. So a sample is above 0 exactly where its voxel is below the level. Tests 26, 21 for a grey, 21 for a voxel, 22, 2; the
+ * place is that of the first wrong voxel at its 21, else 0. Floats are IEEE 754's; the rounding mode is to nearest, as it is by
+ * default, and subnormal numbers are not flushed to 0. */
+malxuqeed_verdict malxuqeed_convert(bool halfway, float grey, float material, uint32_t scale, const float *voxels,
+    size_t voxels_len, int16_t *samples, size_t samples_len);
 
 #ifdef __cplusplus
 }

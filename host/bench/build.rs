@@ -3,7 +3,7 @@
 use std::path::PathBuf;
 use std::process::{exit, Command};
 
-const SOURCES: [&str; 2] = ["second.c", "stl.c"];
+const SOURCES: [&str; 3] = ["second.c", "stl.c", "floats.c"];
 
 fn main() {
     println!("cargo:rerun-if-changed=build.rs");

@@ -1,5 +1,5 @@
-//! What the proved library is measured against, over slices: the hand-written C mesher, `second.c`, and STL by plain C loops,
-//! `stl.c`.
+//! What the proved library is measured against, over slices: the hand-written C mesher, `second.c`, and plain C loops for STL,
+//! `stl.c`, and for volumes in f32, `floats.c`.
 
 use std::sync::Once;
 
@@ -46,6 +46,25 @@ extern "C" {
         byte_count: usize,
     ) -> StlAnswer;
     fn plain_stl_read(bytes: *const u8, byte_count: usize, corners: *mut i32, corner_count: usize) -> StlAnswer;
+    #[rustfmt::skip]
+    fn plain_convert(
+        halfway: i32,
+        grey: f32,
+        material: f32,
+        scale: u32,
+        voxels: *const f32,
+        voxel_count: usize,
+        samples: *mut i16,
+        sample_count: usize,
+    ) -> FloatsAnswer;
+}
+
+/// The refusal number and its place.
+#[repr(C)]
+#[derive(Clone, Copy)]
+struct FloatsAnswer {
+    number: usize,
+    place: usize,
 }
 
 /// The refusal number, its place, and what was written: bytes, or facets.
@@ -94,4 +113,12 @@ pub fn stl_write(nv: usize, nt: usize, vertices: &[i32], triangles: &[u32], byte
 pub fn stl_read(bytes: &[u8], corners: &mut [i32]) -> StlAnswer {
     // SAFETY: as above.
     unsafe { plain_stl_read(bytes.as_ptr(), bytes.len(), corners.as_mut_ptr(), corners.len()) }
+}
+
+/// Answers the refusal number and its place.
+pub fn convert(halfway: bool, grey: f32, material: f32, scale: u32, voxels: &[f32], samples: &mut [i16]) -> [usize; 2] {
+    let (from, to) = (voxels.as_ptr(), samples.as_mut_ptr());
+    // SAFETY: as above.
+    let answer = unsafe { plain_convert(halfway.into(), grey, material, scale, from, voxels.len(), to, samples.len()) };
+    [answer.number, answer.place]
 }

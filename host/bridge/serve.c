@@ -25,6 +25,7 @@ extern got malxuqeed_read(const u8 *, usize, i32 *, usize, u32 *, usize);
 extern verdict malxuqeed_check(sizes, _Bool, place, const i16 *, usize, const u8 *, usize, u16 *, usize, u32 *, usize, u32 *, usize);
 extern wrote malxuqeed_stl_write(usize, usize, const i32 *, usize, const u32 *, usize, u8 *, usize);
 extern loaded malxuqeed_stl_read(const u8 *, usize, i32 *, usize);
+extern verdict malxuqeed_convert(_Bool, float, float, u32, const float *, usize, i16 *, usize);
 
 /* What compiled code calls of a C library. */
 void *memset(void *to, int value, usize n) { for (usize i = 0; i < n; i++) ((u8 *)to)[i] = (u8)value; return to; }
@@ -111,6 +112,12 @@ static u64 guards(usize count, int compare)
 
 #define S(i, type) (type *)slice[i], size[i] / sizeof(type)
 
+static float float_of(u64 bits)
+{
+    union { u32 bits; float number; } own = {(u32)bits};
+    return own.number;
+}
+
 static void serve(const u64 *asked, u64 *answer)
 {
     const sizes z = {asked[1], asked[2], asked[3]};
@@ -145,6 +152,11 @@ static void serve(const u64 *asked, u64 *answer)
     case 5: {
         loaded r = malxuqeed_stl_read(S(0, u8), S(1, i32));
         answer[0] = r.number; answer[1] = r.place; answer[2] = r.facets;
+        break;
+    }
+    case 6: {
+        verdict r = malxuqeed_convert(asked[1] != 0, float_of(asked[2]), float_of(asked[3]), (u32)asked[4], S(0, float), S(1, i16));
+        answer[0] = r.number; answer[1] = r.place;
         break;
     }
     default: leave(1);

@@ -23,3 +23,7 @@ define void @malxuqeed_stl_read(ptr sret([24 x i8]) align 8 %out, ptr %b, i64 %b
   %r = call ptr @lowered_stl_read(ptr %out, ptr %b, i64 %bn, ptr %c, i64 %cn)
   ret void
 }
+define { i64, i64 } @malxuqeed_convert(i1 zeroext %halfway, float %grey, float %material, i32 %scale, ptr %v, i64 %vn, ptr %s, i64 %sn) {
+  %r = call { i64, i64 } @lowered_convert(i1 %halfway, float %grey, float %material, i32 %scale, ptr %v, i64 %vn, ptr %s, i64 %sn)
+  ret { i64, i64 } %r
+}

@@ -1,10 +1,11 @@
 //! A refusal in a sentence that names the files and their values, and says what to do.
 
-use crate::abi::{Place, Sizes, Verdict};
+use crate::abi::{Level, Place, Sizes, Verdict};
 use crate::cubes::Cubes;
 use crate::failure::shown;
 use crate::files;
-use crate::numbers;
+use crate::floats::{self, Floats};
+use crate::numbers::{self, Of};
 use crate::room;
 use crate::sheet::Sheet;
 use crate::stl::{self, Corners};
@@ -18,7 +19,19 @@ pub struct About<'a> {
     pub volume: Option<(&'a Path, &'a Volume)>,
     pub sheet: Option<(&'a Path, &'a [u8])>,
     pub stl: Option<(&'a Path, &'a [u8])>,
+    /// A volume in f32, the level and the scale.
+    pub floats: Option<(&'a Path, &'a Floats, Level, u32)>,
     pub start: Option<Place>,
+}
+
+impl About<'_> {
+    fn of(&self) -> Of {
+        match (self.stl, self.floats) {
+            (Some(_), _) => Of::Stl,
+            (None, Some(_)) => Of::Floats,
+            (None, None) => Of::Sheet,
+        }
+    }
 }
 
 pub fn sizes_text(sizes: Sizes) -> String {
@@ -48,7 +61,7 @@ fn trailer(bytes: &[u8]) -> Option<Trailer> {
 
 /// The refusal in full: number, what was found, what to do.
 pub fn sentence(verdict: Verdict, about: &About) -> String {
-    let remedy = numbers::number(verdict.number).map_or("", |row| row.words(about.stl.is_some()).remedy);
+    let remedy = numbers::number(verdict.number).map_or("", |row| row.words(about.of()).remedy);
     format!("refused {}: {}. {remedy}", verdict.number, found(verdict, about)).trim_end().to_string()
 }
 
@@ -63,6 +76,9 @@ pub fn found(verdict: Verdict, about: &About) -> String {
 
 /// The values behind a refusal.
 fn values(Verdict { number, place }: Verdict, about: &About) -> Option<String> {
+    if let Some((path, floats, level, scale)) = about.floats {
+        return of_floats(Verdict { number, place }, path, floats, level, scale);
+    }
     match number {
         1 => axes(about),
         2 => about.volume.map(|(path, volume)| samples(path, volume)),
@@ -245,4 +261,51 @@ fn coordinates(place: usize, about: &About) -> Option<String> {
 
 fn corners_text<T: Display>(corners: Corners<T>) -> String {
     corners.map(|[x, y, z]| format!("({x} {y} {z})")).join(" ")
+}
+
+/// A refusal of a volume in f32, or of the level and the scale that it was given.
+fn of_floats(
+    Verdict { number, place }: Verdict,
+    path: &Path,
+    floats: &Floats,
+    level: Level,
+    scale: u32,
+) -> Option<String> {
+    let (name, sizes) = (shown(path), sizes_text(floats.sizes));
+    match number {
+        1 if floats.headed && floats.bytes < 6 => {
+            Some(format!("{name} has {} bytes, a volume in floats begins with three sizes in 6", floats.bytes))
+        }
+        1 if floats.headed => Some(format!("{name} says {sizes} samples, an axis has 2 to 64")),
+        1 => Some(format!("--sizes says {sizes} samples, an axis has 2 to 64")),
+        2 => {
+            let wanted = 4 * room::samples(floats.sizes);
+            let held = match floats.bytes as u64 {
+                floats::ENOUGH => "more".to_string(),
+                _ => floats.body().to_string(),
+            };
+            Some(format!("{sizes} voxels have {wanted} bytes, {name} holds {held}"))
+        }
+        21 => {
+            let greys = match level {
+                Level::Fixed(grey) => vec![("the level", grey)],
+                Level::Halfway { air, material } => vec![("the grey of air", air), ("the grey of material", material)],
+            };
+            // NaN is not within anything
+            let wrong = greys.into_iter().find(|(_, grey)| !(-65_536.0..=65_536.0).contains(grey));
+            let (what, value) = match wrong {
+                Some((what, grey)) => (what.to_string(), grey),
+                None => (format!("voxel {place} of {name}, counted from 0,"), *floats.voxels.get(place)?),
+            };
+            Some(format!("{what} is {value}, a grey is a number from -65536 to 65536"))
+        }
+        22 => match level {
+            Level::Halfway { air, material } => {
+                Some(format!("the grey of air, {air}, is not below that of material, {material}"))
+            }
+            Level::Fixed(_) => None,
+        },
+        26 => Some(format!("the scale is {scale}, it is a power of two from 1 to 256")),
+        _ => None,
+    }
 }

@@ -9,6 +9,7 @@ pub mod cubes;
 pub mod explain;
 pub mod failure;
 pub mod files;
+pub mod floats;
 pub mod judge;
 pub mod lines;
 pub mod marks;

@@ -12,6 +12,17 @@ pub struct Number {
     pub place: Option<&'static str>,
     /// What is said in its place of an STL file.
     pub stl: Option<Words>,
+    /// And of a volume in f32.
+    pub floats: Option<Words>,
+}
+
+/// What a refusal speaks of.
+#[derive(Clone, Copy, PartialEq, Eq)]
+pub enum Of {
+    /// A sheet file or a volume.
+    Sheet,
+    Stl,
+    Floats,
 }
 
 /// A number's meaning and remedy.
@@ -28,15 +39,25 @@ impl Number {
         self
     }
 
-    /// The words for a sheet file or a volume, or for an STL file.
-    pub fn words(&self, of_stl: bool) -> Words {
-        let usual = Words { means: self.means, remedy: self.remedy };
-        self.stl.filter(|_| of_stl).unwrap_or(usual)
+    /// The same row, with other words for a volume in f32.
+    const fn of_floats(mut self, means: &'static str, remedy: &'static str) -> Number {
+        self.floats = Some(Words { means, remedy });
+        self
+    }
+
+    /// The words for what is spoken of.
+    pub fn words(&self, of: Of) -> Words {
+        let own = match of {
+            Of::Sheet => None,
+            Of::Stl => self.stl,
+            Of::Floats => self.floats,
+        };
+        own.unwrap_or(Words { means: self.means, remedy: self.remedy })
     }
 }
 
 const fn row(number: usize, name: &'static str, means: &'static str, remedy: &'static str) -> Number {
-    Number { number, name, means, remedy, place: None, stl: None }
+    Number { number, name, means, remedy, place: None, stl: None, floats: None }
 }
 
 const fn placed(
@@ -46,20 +67,25 @@ const fn placed(
     means: &'static str,
     remedy: &'static str,
 ) -> Number {
-    Number { number, name, means, remedy, place: Some(place), stl: None }
+    Number { number, name, means, remedy, place: Some(place), stl: None, floats: None }
 }
 
 /// 25, of a sheet that is written and of a file that is read.
 const NO_COORDINATE: &str =
     "a triangle has a coordinate outside 0 to 4,128,768, or a facet a float that no such coordinate gives";
 
-pub const NUMBERS: [Number; 18] = [
+pub const NUMBERS: [Number; 21] = [
     row(
         1,
         "AXIS",
         "an axis has fewer than 2 or more than 64 samples",
         "Look at the sizes at the front of the volume (or at the end of the sheet): a header of another program, the other \
          byte order or a larger scan gives such sizes. A larger scan is cut into volumes of up to 64 samples an axis first.",
+    )
+    .of_floats(
+        "an axis has fewer than 2 or more than 64 samples",
+        "Look at the sizes at the front of the file, or give --sizes for one without a header. A larger scan is cut into volumes \
+         of up to 64 samples an axis first.",
     ),
     row(
         2,
@@ -67,6 +93,11 @@ pub const NUMBERS: [Number; 18] = [
         "the volume does not hold exactly as many samples as its sizes ask for",
         "Copy the volume again if it was cut short; if it has a header or a tail of another program, make it anew with \
          'malxuqeed from-raw'.",
+    )
+    .of_floats(
+        "there are not as many samples as voxels, or voxels as the sizes ask for",
+        "A file has four bytes a voxel behind its sizes: copy it again if it was cut short, give --sizes for one without a \
+         header. A caller of the library lends as many samples as there are voxels.",
     ),
     row(
         3,
@@ -168,6 +199,20 @@ pub const NUMBERS: [Number; 18] = [
          from it; build the sheet anew.",
     ),
     placed(
+        21,
+        "GREY",
+        "voxel",
+        "a grey or a voxel is not a number, or lies beyond 65,536 on either side of 0",
+        "Look at the greys that were given; of a voxel, at the byte order, the type and a header of another program. Voxels \
+         that stand for nothing are given a grey of their own first.",
+    ),
+    row(
+        22,
+        "ORDER",
+        "the grey of air is not below that of material",
+        "Look whether --air and --material are exchanged. Where material is darker than air, change the sign of all voxels first.",
+    ),
+    placed(
         25,
         "COORDINATE",
         "triangle",
@@ -179,6 +224,12 @@ pub const NUMBERS: [Number; 18] = [
         NO_COORDINATE,
         "Only what 'malxuqeed stl' can write is read back. Another program wrote the file, or moved, scaled, smoothed or \
          repaired what is in it: take the file as it was exported.",
+    ),
+    row(
+        26,
+        "SCALE",
+        "the scale is not a power of two from 1 to 256",
+        "Give 1, 2, 4, 8, 16, 32, 64, 128 or 256: how many steps of a sample a step of grey is to have.",
     ),
 ];
 
@@ -197,14 +248,14 @@ mod tests {
     #[test]
     fn every_number_of_the_documents_has_words() {
         let numbers: Vec<usize> = NUMBERS.iter().map(|row| row.number).collect();
-        let named = (1..=19).filter(|number| ![10, 13].contains(number)).chain([25]);
+        let named = (1..=19).filter(|number| ![10, 13].contains(number)).chain([21, 22, 25, 26]);
         assert_eq!(numbers, named.collect::<Vec<_>>());
         for row in &NUMBERS {
-            for words in [row.words(false), row.words(true)] {
+            for words in [Of::Sheet, Of::Stl, Of::Floats].map(|of| row.words(of)) {
                 assert!(!words.means.ends_with('.') && words.remedy.ends_with('.'), "{}", row.number);
             }
         }
         let placed: Vec<usize> = NUMBERS.iter().filter(|row| row.place.is_some()).map(|row| row.number).collect();
-        assert_eq!(placed, [15, 17, 18, 25]);
+        assert_eq!(placed, [15, 17, 18, 21, 25]);
     }
 }

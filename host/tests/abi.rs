@@ -1,6 +1,6 @@
 //! Every function of the library with every argument distinct, so that two in each other's place are noticed.
 
-use host::abi::{self, Built, Got, Lattice, Loaded, Place, Sizes, Verdict, Work, Wrote};
+use host::abi::{self, Built, Got, Lattice, Level, Loaded, Place, Sizes, Verdict, Work, Wrote};
 
 const SIZES: [usize; 3] = [2, 3, 4];
 const START: [usize; 3] = [0, 1, 2];
@@ -225,4 +225,27 @@ fn stl_read() {
     let mut minus = file;
     minus[84 + 50 + 12 + 3] ^= 0x80;
     assert_eq!(abi::stl_read(&minus, &mut corners), Loaded { number: 25, place: 1, facets: 0 });
+}
+
+#[test]
+fn convert() {
+    let voxels = [1.5, 3.25, -2.0, 7.75, 2.0];
+    let mut samples = vec![80; 6];
+    let mut convert = |level, scale, count: usize| {
+        let verdict = abi::convert(level, scale, &voxels, &mut samples[..count]);
+        (verdict.number, verdict.place, samples.clone())
+    };
+    let halfway = Level::Halfway { air: -3.0, material: 9.0 };
+    assert_eq!(convert(halfway, 4, 5), (0, 0, vec![6, -1, 20, -19, 4, 80]));
+    let kept = vec![6, -1, 20, -19, 4, 80];
+    assert_eq!(convert(Level::Halfway { air: 9.0, material: -3.0 }, 4, 5), (22, 0, kept.clone()));
+    assert_eq!(convert(Level::Halfway { air: f32::NAN, material: 9.0 }, 4, 5), (21, 0, kept.clone()));
+    assert_eq!(convert(Level::Halfway { air: -3.0, material: 65_536.01 }, 4, 5), (21, 0, kept.clone()));
+    for count in [4, 6] {
+        assert_eq!(convert(halfway, 4, count), (2, 0, kept.clone()));
+    }
+    assert_eq!(convert(halfway, 5, 5), (26, 0, kept));
+    assert_eq!(convert(Level::Fixed(2.0), 256, 5), (0, 0, vec![128, -320, 1024, -1472, 0, 80]));
+    let wrong = [1.5, 3.25, f32::NAN, 7.75, f32::INFINITY];
+    assert_eq!(abi::convert(halfway, 1, &wrong, &mut samples), Verdict { number: 21, place: 2 });
 }

@@ -34,6 +34,7 @@ fn readme_s_first_sheet() {
     let folder = Folder::new("readme");
     let case = trials::tray::volume();
     folder.put("scan.raw", &trials::tray::greys(&case));
+    folder.put("scan.flt", &trials::tray::floats(&case));
     let programs = Path::new(TOOL).parent().expect("a folder");
     let path = format!("{}:{}", programs.display(), std::env::var("PATH").unwrap_or_default());
     let examples = examples();
@@ -57,8 +58,14 @@ fn the_manual_has_every_number_and_every_command() {
             let line = format!("| {}, STL | {} | {} |\n", row.number, words.means, words.remedy);
             assert!(manual.contains(&line), "{line}");
         }
+        if let Some(words) = row.floats {
+            let line = format!("| {}, floats | {} | {} |\n", row.number, words.means, words.remedy);
+            assert!(manual.contains(&line), "{line}");
+        }
     }
-    for command in ["from-raw", "info", "build", "check", "audit", "picture", "stl", "facets", "list", "show"] {
+    for command in
+        ["from-raw", "convert", "info", "build", "check", "audit", "picture", "stl", "facets", "list", "show"]
+    {
         assert!(manual.contains(&format!("`{command}")), "{command}");
     }
     for column in host::audit::csv::COLUMNS.split(',') {

@@ -1,4 +1,6 @@
-// The library for programs in other languages: the entry points under plain names, a start as a flag and a place.
+// The library for programs in other languages: the entry points under plain names, a start as a flag and a place, a level as a flag and
+// two greys.
+use floats::Level;
 use paper::Built;
 use paper::Got;
 use paper::Place;
@@ -14,7 +16,8 @@ ghost use Rattle.paper.specs.Build.{lent, Builds};
 ghost use Rattle.paper.specs.File.{Writes, Reads};
 ghost use Rattle.paper.specs.Check.{Checks};
 ghost use Rattle.stl.specs.Stl.{StlWrites, StlReads};
-ghost use Rattle.cabi.specs.Named.{startIf};
+ghost use Rattle.floats.specs.Convert.{Converts};
+ghost use Rattle.cabi.specs.Named.{startIf, levelIf};
 
 // The start that a flag and a place name.
 fn start_if(named: bool, start: Place) -> Start
@@ -115,4 +118,29 @@ pub extern "C" fn malxuqeed_stl_read(bytes: &[u8], corners: &mut [i32]) -> Loade
     ensures { λ r. ⌜ StlReads (now (bytes .entry)) (now (corners .entry)) r (now (corners .exit)) ⌝ }
 {
     stl::read(bytes, corners)
+}
+
+// The level that a flag and two greys give.
+fn level_if(halfway: bool, grey: f32, material: f32) -> Level
+    ensures { λ r. ⌜ r ≡ levelIf halfway grey material ⌝ }
+{
+    if halfway {
+        return Level::Halfway(grey, material);
+    }
+    Level::Fixed(grey)
+}
+
+#[no_mangle]
+pub extern "C" fn malxuqeed_convert(
+    halfway: bool,
+    grey: f32,
+    material: f32,
+    scale: u32,
+    voxels: &[f32],
+    samples: &mut [i16],
+) -> Verdict
+    ensures { λ r. ⌜ Converts (levelIf halfway grey material) scale (now (voxels .entry)) (now (samples .entry)) r (now (samples .exit)) ⌝ }
+{
+    let level = level_if(halfway, grey, material);
+    floats::convert(voxels, level, scale, samples)
 }

@@ -1,14 +1,16 @@
--- What is promised. The contracts of the entry points are `Builds`, `Writes`, `Reads` and `Checks` (paper/specs): each function is proved to
--- meet its own, to be safe and to end, whatever it is given. Here stand the three demands and the round trips that follow from these
--- contracts; each body is the theorem. What has to be believed are the definitions that the statements name. Assumes nothing.
+-- What is promised. The contracts of the entry points are `Builds`, `Writes`, `Reads` and `Checks` (paper/specs), and for document 02 those
+-- that its sections name: each function is proved to meet its own, to be safe and to end, whatever it is given. Here stand the three
+-- demands and the round trips that follow from these contracts; each body is the theorem. What has to be believed are the definitions that
+-- the statements name. Assumes nothing.
 use mathlib.Core.Path.{_≡_, ap, _∙_}
 use mathlib.Core.List.{List}
 use mathlib.Core.Bool.{true, false}
 use Prim.Native.Nat.{ℕ, _+_, _*_, _<_, _≤_}
-use lib.IntN.{ℤ}
+use lib.IntN.{ℤ, pos, negsuc}
+use lib.Signed.{ltZ}
 use lib.Dec.{T}
 use lib.ListN.{length, getD, take}
-use lib.Ieee.{binary32, ofBits, toBits}
+use lib.Ieee.{Float, nan, binary32, ofBits, toBits, sub, lt}
 use Rattle.lists.specs.Lists.{range, each, over, isIn}
 use Rattle.paper.specs.declared.Sizes.{Sizes}
 use Rattle.paper.specs.declared.Place.{Place}
@@ -36,6 +38,12 @@ use Rattle.stl.specs.declared.Loaded.{Loaded}
 use Rattle.stl.specs.Stl.{nineOf, StlWrites, stlFacet, StlReads}
 use Rattle.stl.proofs.Promises.{Exactly as CornerOf, Returned as StlReturned}
 use Rattle.stl.proofs.Promises as stl
+use Rattle.floats.specs.declared.Level.{Level}
+use Rattle.floats.specs.Level.{levelOf}
+use Rattle.floats.specs.Sample.{none}
+use Rattle.floats.specs.Convert.{samplesOf, Converts}
+use Rattle.floats.proofs.Promises.{Singles, Exactly as SampleOf}
+use Rattle.floats.proofs.Promises as floats
 use Rattle.paper.proofs.Agreement as agree
 use Rattle.paper.proofs.Passing.{sample-tests}
 use Rattle.paper.proofs.Fill as filling
@@ -176,3 +184,36 @@ stl-taken = stl.taken-bits
 
 pub stl-takes : (b n : ℕ) → n ≤ 4128768 → b ≡ toBits binary32 (floatOf n) → isImage (ofBits binary32 b) ≡ true
 stl-takes = stl.bits-taken
+
+-- ── document 02 (vii): volumes in f32; the contract is `Converts` (floats/specs) ──
+
+-- the answer and the lent slice are settled
+pub one-convert : {l : Level} {n : ℕ} {vs : List Float} {before after after′ : List ℤ} {r r′ : Verdict}
+    → Converts l n vs before r after → Converts l n vs before r′ after′ → (r ≡ r′) × (after ≡ after′)
+one-convert = floats.converts-agree
+
+module _ {l : Level} {n : ℕ} {vs : List Float} {before after : List ℤ} {r : Verdict} (c : Converts l n vs before r after) where
+  -- a refusal writes nothing
+  pub refused-as-was : (r .number ≡ 0 → ⊥) → after ≡ before
+  refused-as-was = floats.refused-as-was c
+
+  module _ (e : r .number ≡ 0) where
+    -- "Samples go to a lent i16 slice": one for each voxel, and nothing else
+    pub converted : after ≡ samplesOf l n vs
+    converted = floats.all-samples c e
+
+    -- "so no voxel changes side": a sample is above 0 exactly when its voxel is below the level, and exactly when d is above 0
+    pub converted-side : Singles l vs → (i : ℕ) → i < length vs → ltZ (pos 0) (getD after i (pos 0)) ≡ lt (getD vs i nan) (levelOf l)
+    converted-side = floats.above-exactly c e
+
+    pub converted-above : (i : ℕ) → i < length vs
+        → ltZ (pos 0) (getD after i (pos 0)) ≡ lt none (sub binary32 (levelOf l) (getD vs i nan))
+    converted-above = floats.above-difference c e
+
+    -- "d times a power of two .., cut towards zero and held to ±32,767; where d is above 0 the sample is at least 1": d is a number
+    pub converted-exactly : (i : ℕ) → i < length vs → SampleOf (sub binary32 (levelOf l) (getD vs i nan)) n (getD after i (pos 0))
+    converted-exactly = floats.each-exactly c e
+
+    -- "none is the fill of (iii)"
+    pub converted-no-fill : (i : ℕ) → i < length vs → getD after i (pos 0) ≡ negsuc 32767 → ⊥
+    converted-no-fill = floats.no-fill c e

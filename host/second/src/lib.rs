@@ -1,5 +1,5 @@
-//! A second mesher, writer, reader and checker, written from document 01 and document 02 (iii) alone, and the same of binary STL
-//! from document 02 (i).
+//! A second mesher, writer, reader and checker, written from document 01 and document 02 (iii) alone, the same of binary STL from
+//! document 02 (i), and of volumes in f32 from document 02 (vii).
 //!
 //! It works on coordinates, sets and maps. The proved code works on lent slices, edge slots and cube words;
 //! the two share no table and no trick, so that one can be held against the other. The tool does not use it.
@@ -9,6 +9,7 @@
 mod build;
 mod check;
 mod file;
+pub mod floats;
 mod lattice;
 mod list;
 mod sheet;

@@ -1,6 +1,6 @@
 //! The library linked into this program. All of the host's unsafe code stands here.
 
-use super::{Built, Got, Lattice, Loaded, Place, Sizes, Verdict, Work, Wrote};
+use super::{Built, Got, Lattice, Level, Loaded, Place, Sizes, Verdict, Work, Wrote};
 
 extern "C" {
     #[rustfmt::skip]
@@ -71,6 +71,17 @@ extern "C" {
     ) -> Wrote;
     #[rustfmt::skip]
     fn malxuqeed_stl_read(bytes: *const u8, bytes_len: usize, corners: *mut i32, corners_len: usize) -> Loaded;
+    #[rustfmt::skip]
+    fn malxuqeed_convert(
+        halfway: bool,
+        grey: f32,
+        material: f32,
+        scale: u32,
+        voxels: *const f32,
+        voxels_len: usize,
+        samples: *mut i16,
+        samples_len: usize,
+    ) -> Verdict;
 }
 
 // SAFETY of all calls: the functions have no conditions of their own; each pointer is that of a slice, passed
@@ -135,4 +146,14 @@ pub fn stl_write(nv: usize, nt: usize, vertices: &[i32], triangles: &[u32], byte
 #[rustfmt::skip]
 pub fn stl_read(bytes: &[u8], corners: &mut [i32]) -> Loaded {
     unsafe { malxuqeed_stl_read(bytes.as_ptr(), bytes.len(), corners.as_mut_ptr(), corners.len()) }
+}
+
+#[rustfmt::skip]
+pub fn convert(level: Level, scale: u32, voxels: &[f32], samples: &mut [i16]) -> Verdict {
+    let (halfway, grey, material) = level.parts();
+    unsafe {
+        malxuqeed_convert(
+            halfway, grey, material, scale, voxels.as_ptr(), voxels.len(), samples.as_mut_ptr(), samples.len(),
+        )
+    }
 }

@@ -4,7 +4,7 @@
 //! The process (`bridge/serve.c`) puts guard bytes round every slice and says whether they and the slices that are
 //! only read are unchanged. Each thread has a process; it ends with the thread.
 
-use super::{Built, Got, Lattice, Loaded, Sizes, Verdict, Work, Wrote};
+use super::{Built, Got, Lattice, Level, Loaded, Sizes, Verdict, Work, Wrote};
 use std::cell::RefCell;
 use std::io::{self, Read, Write};
 use std::process::{exit, Child, ChildStdin, ChildStdout, Command, Stdio};
@@ -38,7 +38,7 @@ macro_rules! word {
         }
     )*};
 }
-word!(u8 u16 i16 u32 i32);
+word!(u8 u16 i16 u32 i32 f32);
 
 /// A lent slice of any width.
 trait Lent {
@@ -195,4 +195,12 @@ pub fn stl_write(nv: usize, nt: usize, mut vertices: &[i32], mut triangles: &[u3
 pub fn stl_read(mut bytes: &[u8], mut corners: &mut [i32]) -> Loaded {
     let [number, place, facets, ..] = call([5, 0, 0, 0, 0, 0, 0, 0], &mut [&mut bytes, &mut corners]);
     Loaded { number, place, facets }
+}
+
+pub fn convert(level: Level, scale: u32, mut voxels: &[f32], mut samples: &mut [i16]) -> Verdict {
+    let (halfway, grey, material) = level.parts();
+    let [grey, material] = [grey, material].map(|grey| grey.to_bits() as usize);
+    let asked = [6, halfway.into(), grey, material, scale as usize, 0, 0, 0];
+    let [number, place, ..] = call(asked, &mut [&mut voxels, &mut samples]);
+    Verdict { number, place }
 }

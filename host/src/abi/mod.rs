@@ -86,6 +86,23 @@ pub struct Lattice<'a> {
     pub samples: &'a [i16],
 }
 
+/// How the level of a volume in f32 is given: a grey, or halfway between that of air and that of material.
+#[derive(Clone, Copy, Debug, PartialEq)]
+pub enum Level {
+    Fixed(f32),
+    Halfway { air: f32, material: f32 },
+}
+
+impl Level {
+    /// As the boundary takes it: whether it is halfway, and the two greys.
+    fn parts(self) -> (bool, f32, f32) {
+        match self {
+            Level::Fixed(grey) => (false, grey, 0.0),
+            Level::Halfway { air, material } => (true, air, material),
+        }
+    }
+}
+
 /// The lent work room: cube words, waiting list, edge slots.
 #[derive(Debug)]
 pub struct Work<'a> {
@@ -116,4 +133,8 @@ pub fn stl_write(nv: usize, nt: usize, vertices: &[i32], triangles: &[u32], byte
 
 pub fn stl_read(bytes: &[u8], corners: &mut [i32]) -> Loaded {
     library::stl_read(bytes, corners)
+}
+
+pub fn convert(level: Level, scale: u32, voxels: &[f32], samples: &mut [i16]) -> Verdict {
+    library::convert(level, scale, voxels, samples)
 }

@@ -57,6 +57,9 @@ pub fn page() -> String {
         if let Some(words) = row.stl {
             page += &format!("Of an STL file: {}. {}\n", plain(words.means), plain(words.remedy));
         }
+        if let Some(words) = row.floats {
+            page += &format!("Of a volume in floats: {}. {}\n", plain(words.means), plain(words.remedy));
+        }
     }
     page
 }

@@ -4,6 +4,7 @@ pub mod audit;
 pub mod build;
 pub mod check;
 pub mod completion;
+pub mod convert;
 pub mod facets;
 pub mod from_raw;
 pub mod help;
@@ -18,8 +19,9 @@ pub mod version;
 use crate::command::Command;
 
 /// In the order of the help.
-pub static COMMANDS: [&Command; 14] = [
+pub static COMMANDS: [&Command; 15] = [
     &from_raw::COMMAND,
+    &convert::COMMAND,
     &info::COMMAND,
     &build::COMMAND,
     &check::COMMAND,

@@ -4,6 +4,7 @@ pub mod archive;
 pub mod cases;
 pub mod damage;
 pub mod fill;
+pub mod floats;
 pub mod fuzz;
 pub mod hold;
 pub mod pairing;

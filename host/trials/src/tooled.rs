@@ -4,6 +4,7 @@
 use crate::cases::{content, sheet_counts, Case, Lent};
 use crate::damage;
 use crate::fill::any_case;
+use crate::floats::{self, Asked as Floats};
 use crate::random::Random;
 use crate::stl;
 use host::args::{self, Given, Start as Asked};
@@ -12,6 +13,7 @@ use host::commands::help;
 use host::failure::Failure;
 use host::streams::Streams;
 use host::tool::run;
+use second::floats::Level;
 use std::collections::BTreeMap;
 use std::ffi::OsString;
 use std::fs;
@@ -44,10 +46,11 @@ fn expected(status: u8, output: impl Into<String>) -> Expected {
 /// What a line of a manifest asks for: volume, sheet, start.
 type Entry = (&'static str, &'static str, Start);
 
-/// A manifest, and its lines with what each asks for; a wrong line asks for nothing.
+/// A manifest, and its lines with what each asks for; a wrong line asks for nothing. Beside it a file of floats.
 struct Manifest {
     text: Vec<u8>,
     lines: Vec<(String, Option<Entry>)>,
+    floats: Floats,
 }
 
 const VOLUMES: [&str; 3] = ["v.raw", "w.raw", "x y.raw"];
@@ -80,7 +83,8 @@ fn stl_name(random: &mut Random) -> &'static str {
 }
 
 fn manifest(random: &mut Random, start: Start) -> Manifest {
-    let mut manifest = Manifest { text: b"# a manifest\n\n".to_vec(), lines: Vec::new() };
+    let floats = floats::asked(random);
+    let mut manifest = Manifest { text: b"# a manifest\n\n".to_vec(), lines: Vec::new(), floats };
     for _ in 0..random.below(6) {
         let (volume, sheet) = (volume_name(random), sheet_name(random));
         let (line, entry) = match random.below(8) {
@@ -127,6 +131,7 @@ fn prepare(random: &mut Random, about: &Case) -> std::io::Result<Manifest> {
     fs::write("t.stl", stl::file(random))?;
     let manifest = manifest(random, about.start);
     fs::write("m.txt", &manifest.text)?;
+    fs::write("f.flt", &manifest.floats.file)?;
     Ok(manifest)
 }
 
@@ -143,9 +148,30 @@ fn random_start_word(random: &mut Random, start: Start) -> String {
     }
 }
 
+/// A file of floats to a volume.
+fn converted(random: &mut Random, asked: &Floats) -> Vec<OsString> {
+    let from = if random.once_in(12) { volume_name(random) } else { "f.flt" };
+    let mut words: Vec<OsString> = vec!["convert".into(), from.into(), volume_name(random).into()];
+    let mut option = |name: &str, value: String| words.extend([name.into(), value.into()]);
+    match asked.level {
+        Level::Fixed(grey) => option("--level", grey.to_string()),
+        Level::Halfway(air, material) => {
+            option("--material", format!("{material:e}"));
+            option("--air", air.to_string());
+        }
+    }
+    if asked.scale != 1 || random.once_in(2) {
+        option("--scale", asked.scale.to_string());
+    }
+    if random.once_in(8) {
+        option("--sizes", random.pick(&["2,2,2", "3,2,2", "2,2", "65,2,2", "99999999999999999999,2,2"]).into());
+    }
+    words
+}
+
 /// A command line that means something, or a random row of words.
-fn words(random: &mut Random, start: Start) -> Vec<OsString> {
-    let mut words: Vec<OsString> = match random.below(12) {
+fn words(random: &mut Random, start: Start, floats: &Floats) -> Vec<OsString> {
+    let mut words: Vec<OsString> = match random.below(14) {
         0 => vec!["build".into(), volume_name(random).into(), sheet_name(random).into()],
         1 | 2 => vec!["check".into(), volume_name(random).into(), sheet_name(random).into()],
         3 => vec!["list".into(), volume_name(random).into()],
@@ -155,6 +181,7 @@ fn words(random: &mut Random, start: Start) -> Vec<OsString> {
         7 => return picture(random, start),
         8 | 9 => vec!["stl".into(), sheet_name(random).into(), stl_name(random).into()],
         10 => vec!["facets".into(), stl_name(random).into()],
+        11 | 12 => converted(random, floats),
         _ => return (0..random.below(6)).map(|_| any_word(random, start)).collect(),
     };
     if random.once_in(20) && words.len() > 1 {
@@ -188,7 +215,9 @@ fn picture(random: &mut Random, start: Start) -> Vec<OsString> {
 
 fn any_word(random: &mut Random, start: Start) -> OsString {
     match random.below(8) {
-        0 | 1 => random.pick(&["build", "check", "list", "show", "audit", "stl", "facets", "help", ""]).into(),
+        0 | 1 => random
+            .pick(&["build", "check", "list", "show", "audit", "stl", "facets", "convert", "--level", "help", ""])
+            .into(),
         2 => {
             random.pick(&["--help", "-h", "--", "--start", "--start=", "--start=0,0,0", "--x", "-v", "--force"]).into()
         }
@@ -356,6 +385,42 @@ fn expect_facets(path: &Path, input: &[u8]) -> Expected {
     }
 }
 
+fn expect_convert(command: &Command, given: &Given, input: &[u8]) -> Expected {
+    let (from, to) = (given.name(0), given.name(1));
+    let text = |name: &str| {
+        let value = command.option(name.as_bytes()).and_then(|option| given.get(option));
+        value.map(|value| value.to_string_lossy().into_owned())
+    };
+    let grey = |name: &str| text(name).map(|grey| grey.parse::<f32>());
+    let level = match (grey("--level"), grey("--air"), grey("--material")) {
+        (Some(Ok(grey)), None, None) => Level::Fixed(grey),
+        (None, Some(Ok(air)), Some(Ok(material))) => Level::Halfway(air, material),
+        _ => return expected(2, ""),
+    };
+    let scale = match text("--scale") {
+        None => 1,
+        Some(digits) if !digits.is_empty() && digits.bytes().all(|digit| digit.is_ascii_digit()) => {
+            digits.parse().unwrap_or(u32::MAX)
+        }
+        Some(_) => return expected(2, ""),
+    };
+    let sizes = match text("--sizes").map(|sizes| args::triple(sizes.as_bytes())) {
+        Some(None) => return expected(2, ""),
+        sizes => sizes.flatten(),
+    };
+    if clash(from, to) {
+        return expected(2, "");
+    }
+    let Ok(file) = bytes_of(from, input) else { return expected(2, "") };
+    match second::floats::file(&file, sizes, level, scale) {
+        Ok((sizes, samples)) => {
+            let [nx, ny, nz] = sizes;
+            expect_written(to, Case { sizes, start: None, samples }.file(), format!("{nx} {ny} {nz}\n"))
+        }
+        Err(refused) => expected(1, format!("refused {} {}\n", refused.number, refused.place)),
+    }
+}
+
 fn expect_show(sheet: &Path, input: &[u8]) -> Expected {
     let Ok(file) = bytes_of(sheet, input) else { return expected(2, "") };
     match second::parse(&file) {
@@ -457,6 +522,7 @@ fn expect(parsed: &Result<(&'static Command, Given), Failure>, input: &[u8], man
         "show" => expect_show(given.name(0), input),
         "stl" => expect_stl(given.name(0), given.name(1), input),
         "facets" => expect_facets(given.name(0), input),
+        "convert" => expect_convert(command, given, input),
         "audit" if given.name(0) == Path::new("m.txt") => expect_audit(manifest),
         "audit" if bytes_of(given.name(0), input).is_err() => expected(2, ""),
         "help" if given.maybe(0).is_none() => expected(0, help::tool()),
@@ -469,7 +535,7 @@ fn expect(parsed: &Result<(&'static Command, Given), Failure>, input: &[u8], man
 pub fn round(random: &mut Random) -> usize {
     let about = any_case(random);
     let manifest = prepare(random, &about).expect("the folder can be filled");
-    let args = words(random, about.start);
+    let args = words(random, about.start, &manifest.floats);
     let input = damage::volume_file(random, about.file());
     let command = args::parse(&args);
     let wanted = expect(&command, &input, &manifest);
@@ -502,8 +568,7 @@ pub fn round(random: &mut Random) -> usize {
     let settled = !matches!(wanted.output, Output::Any);
     assert!(if settled { status == wanted.status } else { status <= 2 }, "{args:?} ended with {status}: {said}");
     // Most commands say something exactly when it is not well; an audit or a build may have something to say on the way.
-    let talks =
-        matches!(&command, Ok((command, _)) if ["audit", "build", "info", "picture", "stl"].contains(&command.name));
+    let talks = matches!(&command, Ok((command, _)) if ["audit", "build", "convert", "info", "picture", "stl"].contains(&command.name));
     assert!(talks || errors.is_empty() == (status == 0), "{args:?} ended with {status} and said {errors:?}");
     files.extend(wanted.written);
     assert!(files == snapshot_all(), "{args:?}: the folder is not as it should be");

@@ -89,6 +89,13 @@ pub fn greys(volume: &Case) -> Vec<u8> {
     volume.samples.iter().flat_map(|sample| grey(sample).to_le_bytes()).collect()
 }
 
+/// The scan as the new reconstruction writes it: sizes, then greys divided by 256, in 32-bit floats.
+pub fn floats(volume: &Case) -> Vec<u8> {
+    let head = volume.sizes.iter().flat_map(|axis| (*axis as u16).to_le_bytes());
+    let grey = |sample: &i16| ((LEVEL - i32::from(*sample)) as f32 / 256.0).to_le_bytes();
+    head.chain(volume.samples.iter().flat_map(grey)).collect()
+}
+
 /// The cube where a walk from an air sample towards lower x meets solid.
 fn wall(volume: &Case, from: [f64; 3]) -> Option<[usize; 3]> {
     let [x, y, z] = from.map(|v| v.round() as usize);

@@ -7,7 +7,7 @@ use std::collections::{BTreeMap, BTreeSet};
 use trials::cases::{self, Case, Lent};
 use trials::fill::{self, FILL};
 use trials::random::Random;
-use trials::{damage, hold, pairing, stl, volumes};
+use trials::{damage, floats, hold, pairing, stl, volumes};
 
 /// Runs so many cases and says that each of the numbers came up.
 fn hold(cases: u64, seed: u64, trial: fn(&mut Random) -> usize, numbers: &[usize]) {
@@ -173,6 +173,11 @@ fn write_4000() {
 #[test]
 fn stl_write_8000() {
     hold(8000, 6_000_000, stl::write, &[0, 8, 9, 15, 25]);
+}
+
+#[test]
+fn convert_20000() {
+    hold(20_000, 9_000_000, floats::convert, &[0, 2, 21, 22, 26]);
 }
 
 #[test]

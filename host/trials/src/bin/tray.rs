@@ -1,4 +1,5 @@
-//! `tray FOLDER`: writes the demo's synthetic tray as greys, tray.raw, and a manifest with a line for each of its surfaces.
+//! `tray FOLDER`: writes the demo's synthetic tray as greys, tray.raw, and as floats, tray.flt, and a manifest with a line for each of
+//! its surfaces.
 
 use std::path::Path;
 use std::process::ExitCode;
@@ -7,7 +8,7 @@ use trials::tray;
 fn main() -> ExitCode {
     let args: Vec<_> = std::env::args_os().skip(1).collect();
     let [folder] = &args[..] else {
-        eprintln!("tray FOLDER: writes tray.raw and manifest.txt");
+        eprintln!("tray FOLDER: writes tray.raw, tray.flt and manifest.txt");
         return ExitCode::from(2);
     };
     let volume = tray::volume();
@@ -19,6 +20,7 @@ fn main() -> ExitCode {
     let folder = Path::new(folder);
     let written = std::fs::create_dir_all(folder)
         .and_then(|()| std::fs::write(folder.join("tray.raw"), tray::greys(&volume)))
+        .and_then(|()| std::fs::write(folder.join("tray.flt"), tray::floats(&volume)))
         .and_then(|()| std::fs::write(folder.join("manifest.txt"), manifest));
     match written {
         Ok(()) => {
@@ -27,6 +29,7 @@ fn main() -> ExitCode {
             println!(
                 "tray.raw: {nx} x {ny} x {nz} greys of 16 bits, air below {level}, {unseen} where nothing is seen"
             );
+            println!("tray.flt: the same divided by 256, as 32-bit floats behind their sizes");
             ExitCode::SUCCESS
         }
         Err(error) => {

@@ -1,13 +1,15 @@
 //! `bench [REPEATS]`: the proved library beside the hand-written C mesher, the second mesher of the trials and plain C loops for
-//! STL: on three volumes of 64x64x64 samples, on small surfaces in as large a lattice, on lattices that grow.
+//! STL and for volumes in f32: on three volumes of 64x64x64 samples, on small surfaces in as large a lattice, on lattices that grow.
 //!
 //! `make bench` builds it so that the library's code is this processor's (see own.sh).
 
 mod buffers;
+mod floats;
 mod rows;
 mod stl;
 
 use buffers::Buffers;
+use floats::Floats;
 use host::abi;
 use rows::{ms, Row};
 use std::process::ExitCode;
@@ -19,7 +21,7 @@ use trials::volumes;
 /// All that is measured.
 struct Bench {
     buffers: Buffers,
-    full: Vec<(Row, Stl)>,
+    full: Vec<(Row, Stl, Floats)>,
     small: Vec<Row>,
     growing: Vec<Row>,
 }
@@ -37,7 +39,11 @@ impl Bench {
             if !stl.agree() {
                 return Err(format!("{name}: the library and stl.c do not agree"));
             }
-            full.push((row, stl));
+            let mut floats = Floats::new(&row.case);
+            if !floats.agree() {
+                return Err(format!("{name}: the library and floats.c do not agree"));
+            }
+            full.push((row, stl, floats));
         }
         let mut rows = |cases: Vec<(&'static str, Case)>| -> Result<Vec<Row>, String> {
             cases.into_iter().map(|(name, case)| Row::new(&mut buffers, name, case)).collect()
@@ -48,10 +54,11 @@ impl Bench {
 
     fn measure(&mut self, repeat: usize) {
         let Bench { buffers, full, small, growing } = self;
-        for (row, stl) in full {
+        for (row, stl, floats) in full {
             row.measure(buffers);
             row.measure_files(buffers);
             stl.measure();
+            floats.measure();
             if repeat < FEW {
                 row.measure_second(buffers);
             }
@@ -61,7 +68,7 @@ impl Bench {
 
     /// The three volumes, then the small surfaces.
     fn rows(&self) -> impl Iterator<Item = &Row> {
-        self.full.iter().map(|(row, _)| row).chain(&self.small)
+        self.full.iter().map(|(row, ..)| row).chain(&self.small)
     }
 
     fn report(&self) {
@@ -79,7 +86,7 @@ impl Bench {
             println!("{name:7} {own:7.3}  {by_c:12.2}  {by_build:9.2}  {shuffled:11.3}  {apart:17.2}  {by_own:12.2}");
         }
         println!("\nns a sample   axis  second.c   build   check  shuffled  build/second.c  check/second.c  shuffled/second.c");
-        let largest = self.full.iter().map(|(row, _)| row).filter(|row| row.name == "noise");
+        let largest = self.full.iter().map(|(row, ..)| row).filter(|row| row.name == "noise");
         for row in self.growing.iter().chain(largest) {
             let Row { name, times, case, .. } = row;
             let each = |time: Duration| time.as_secs_f64() * 1e9 / row.samples() as f64;
@@ -90,15 +97,17 @@ impl Bench {
             println!("  {by_build:14.2}  {by_check:14.2}  {apart:17.2}");
         }
         println!("\nfiles    write ms   read ms  write/build  read/build");
-        for (Row { name, times, .. }, _) in &self.full {
+        for (Row { name, times, .. }, ..) in &self.full {
             let [write, read, build] = [times.write, times.read, times.build].map(ms);
             let (by_write, by_read) = (write / build, read / build);
             println!("{name:7}  {write:8.3}  {read:8.3}  {by_write:11.2}  {by_read:10.2}");
         }
         println!("{}", stl::HEADER);
-        self.full.iter().for_each(|(row, stl)| println!("{}", stl.row(row.name)));
+        self.full.iter().for_each(|(row, stl, _)| println!("{}", stl.row(row.name)));
+        println!("{}", floats::HEADER);
+        self.full.iter().for_each(|(row, _, floats)| println!("{}", floats.row(row.name)));
         println!("\nsecond mesher of the trials  build ms  check ms  library/its build  library/its check");
-        for (Row { name, times, .. }, _) in &self.full {
+        for (Row { name, times, .. }, ..) in &self.full {
             let [build, check] = [times.second_build, times.second_check].map(ms);
             let (by_build, by_check) = (ms(times.build) / build, ms(times.check) / check);
             println!("{name:27}  {build:8.1}  {check:8.1}  {by_build:17.4}  {by_check:17.4}");
