@@ -1,4 +1,4 @@
-"""check.py VOLUME SHEET [X,Y,Z]: checks a sheet file against its volume through the library, by ctypes.
+"""check.py VOLUME SHEET [X,Y,Z|lowest]: checks a sheet file against its volume through the library, by ctypes.
 
 The library is looked for by name, or where MALXUQEED_SO says."""
 
@@ -20,17 +20,18 @@ class Verdict(ctypes.Structure):
 
 
 def library():
-    found = ctypes.CDLL(os.environ.get("MALXUQEED_SO") or ctypes.util.find_library("malxuqeed") or "libmalxuqeed.so.0")
+    found = ctypes.CDLL(os.environ.get("MALXUQEED_SO") or ctypes.util.find_library("malxuqeed") or "libmalxuqeed.so.1")
     size = ctypes.c_size_t
     lent = [ctypes.c_void_p, size]
-    # sizes, whether a start is named, the start; then samples, bytes, cube words, waiting list and edge slots with their lengths
-    found.malxuqeed_check.argtypes = [Triple, ctypes.c_bool, Triple] + 5 * lent
+    # sizes, which start (0 the default, 1 the lowest, 2 the cube), its cube; then samples, bytes, cube words, waiting list and
+    # edge slots with their lengths
+    found.malxuqeed_check.argtypes = [Triple, ctypes.c_uint32, Triple] + 5 * lent
     found.malxuqeed_check.restype = Verdict
     return found
 
 
 def check(volume, sheet, start=None):
-    """The number and the place that document 01 gives; 0 is accepted."""
+    """The number and the place that documents 01 and 02 give; 0 is accepted. The start is a cube, "lowest" or none."""
     if len(volume) < 6:
         return 1, 0
     nx, ny, nz = struct.unpack("<3H", volume[:6])
@@ -40,8 +41,9 @@ def check(volume, sheet, start=None):
     count = (len(volume) - 6) // 2
     samples = (ctypes.c_int16 * count)(*struct.unpack(f"<{count}h", volume[6:6 + 2 * count]))
     data = (ctypes.c_uint8 * len(sheet)).from_buffer_copy(sheet) if sheet else (ctypes.c_uint8 * 1)()
+    cube = start if isinstance(start, tuple) else (0, 0, 0)
     verdict = library().malxuqeed_check(
-        Triple(nx, ny, nz), start is not None, Triple(*(start or (0, 0, 0))),
+        Triple(nx, ny, nz), {None: 0, "lowest": 1}.get(start, 2), Triple(*cube),
         samples, count, data, len(sheet),
         (ctypes.c_uint16 * cubes)(), cubes, (ctypes.c_uint32 * cubes)(), cubes, (ctypes.c_uint32 * slots)(), slots)
     return verdict.number, verdict.place
@@ -51,7 +53,8 @@ def main(words):
     if len(words) not in (2, 3):
         sys.exit(__doc__)
     with open(words[0], "rb") as volume, open(words[1], "rb") as sheet:
-        start = tuple(int(part) for part in words[2].split(",")) if len(words) == 3 else None
+        named = words[2] if len(words) == 3 else None
+        start = named if named in (None, "lowest") else tuple(int(part) for part in named.split(","))
         number, place = check(volume.read(), sheet.read(), start)
     print(f"refused {number} {place}" if number else "accepted")
     return 1 if number else 0

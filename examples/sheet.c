@@ -42,7 +42,7 @@ int main(int count, char **words)
 
     malxuqeed_place nowhere = {0, 0, 0};
     malxuqeed_built built = malxuqeed_build(
-        sizes, false, nowhere, samples, n, vertices, nv, triangles, nt, cube_words, nw, waiting, nl, slots, ns);
+        sizes, MALXUQEED_FROM_LOWEST, nowhere, samples, n, vertices, nv, triangles, nt, cube_words, nw, waiting, nl, slots, ns);
     if (built.number != MALXUQEED_OK) return refused("building", built.number);
 
     size_t bytes_len = malxuqeed_file_bytes(built.vertices, built.triangles);
@@ -55,7 +55,7 @@ int main(int count, char **words)
     if (!file || fwrite(bytes, 1, wrote.bytes, file) != wrote.bytes || fclose(file)) { perror(words[2]); return 2; }
 
     malxuqeed_verdict verdict =
-        malxuqeed_check(sizes, false, nowhere, samples, n, bytes, wrote.bytes, cube_words, nw, waiting, nl, slots, ns);
+        malxuqeed_check(sizes, MALXUQEED_FROM_LOWEST, nowhere, samples, n, bytes, wrote.bytes, cube_words, nw, waiting, nl, slots, ns);
     if (verdict.number != MALXUQEED_OK) return refused("checking", verdict.number);
     printf("%zu %zu %zu, %zu bytes, accepted\n", built.vertices, built.triangles, built.cubes, wrote.bytes);
     return 0;

@@ -32,7 +32,7 @@ say "1. The scan. Four housings stand on the floor of one tray; two of them have
 show tray .
 show malxuqeed from-raw tray.raw walls.vol --sizes 64,64,40 --type u16 --level 20000
 begin 8 malxuqeed info walls.vol
-show malxuqeed build walls.vol wall.sheet
+show malxuqeed build walls.vol wall.sheet --start lowest
 show malxuqeed picture wall.sheet wall.png
 say "   With --fill it is no sample, and no cube that holds it is visited."
 show malxuqeed from-raw tray.raw tray.vol --sizes 64,64,40 --type u16 --level 20000 --fill 65535

@@ -10,8 +10,8 @@ mkdir -p "$to/bin" "$to/include" "$to/lib/pkgconfig" "$to/share/man/man1" "$to/s
 install -m 755 "$programs/malxuqeed" "$to/bin/malxuqeed"
 install -m 644 "$root/include/malxuqeed.h" "$to/include/malxuqeed.h"
 install -m 644 "$library" "$to/lib/libmalxuqeed.a"
-cc -shared -o "$to/lib/libmalxuqeed.so.0" -Wl,-soname,libmalxuqeed.so.0 -Wl,--whole-archive "$library" -Wl,--no-whole-archive
-ln -sf libmalxuqeed.so.0 "$to/lib/libmalxuqeed.so"
+cc -shared -o "$to/lib/libmalxuqeed.so.1" -Wl,-soname,libmalxuqeed.so.1 -Wl,--whole-archive "$library" -Wl,--no-whole-archive
+ln -sf libmalxuqeed.so.1 "$to/lib/libmalxuqeed.so"
 # prefix by the file's own place, so that the whole can be moved
 cat >"$to/lib/pkgconfig/malxuqeed.pc" <<PC
 prefix=\${pcfiledir}/../..

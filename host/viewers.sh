@@ -61,7 +61,7 @@ for sign in 1 -1; do
     name=$([ $sign = 1 ] && echo pore-of-zeros || echo grain-of-zeros)
     ball $sign >"$name.raw"
     malxuqeed from-raw "$name.raw" "$name.vol" --sizes 13,13,13 --type u8 --level 100 >/dev/null
-    malxuqeed build "$name.vol" "$name.sheet" >/dev/null
+    malxuqeed build "$name.vol" "$name.sheet" --start lowest >/dev/null
     view "$name" "$([ $sign = 1 ] && echo - || echo +)"
     [ "$closed" = closed ] && [ "${flats:-0}" -gt 0 ] || { echo "$name must be closed and have facets of no area" >&2; exit 1; }
 done

@@ -31,6 +31,13 @@ typedef struct { size_t nx, ny, nz; } malxuqeed_sizes;
 /* A cube of the lattice, by its lowest corner: each coordinate is below its axis minus 1. */
 typedef struct { size_t x, y, z; } malxuqeed_place;
 
+/* Which cube a sheet starts at: 0, none is named, and it is the lowest crossed cube with none of its six faces in the lattice's
+ * bounds; 1, the lowest crossed cube, which was the default before; any other number, the cube at the place beside it, which is
+ * not looked at otherwise. */
+#define MALXUQEED_FROM_DEFAULT 0
+#define MALXUQEED_FROM_LOWEST 1
+#define MALXUQEED_FROM_CUBE 2
+
 /* The numbers of documents 01 and 02; malxuqeed_meaning says each in a sentence. */
 typedef enum {
     MALXUQEED_OK = 0,
@@ -66,7 +73,8 @@ static inline const char *malxuqeed_meaning(size_t number)
     case MALXUQEED_WORK: return "a lent work slice is too short";
     case MALXUQEED_START: return "the named start is not a cube of the lattice";
     case MALXUQEED_NOT_CROSSED:
-        return "the surface does not pass through the start cube, or that holds the fill, or, none named, through any cube free of the fill";
+        return "the surface does not pass through the named start cube, or that cube holds the fill; "
+               "or no cube is named, and none is crossed, or only cubes at the bounds are";
     case MALXUQEED_VERTEX_ROOM: return "the sheet has more vertices than there is room for";
     case MALXUQEED_TRIANGLE_ROOM: return "the sheet has more triangles than there is room for";
     case MALXUQEED_BYTES: return "the lent bytes are too few for the file";
@@ -138,10 +146,10 @@ typedef struct { size_t number, place, vertices, triangles; malxuqeed_sizes size
 typedef struct { size_t number, place; } malxuqeed_verdict;
 typedef struct { size_t number, place, facets; } malxuqeed_loaded;
 
-/* Builds the sheet through a start cube: the named one, or, where named is false, the lowest that is crossed. Vertices are
- * records of four numbers (edge, x, y, z; coordinates in 1/65536 of a sample step), triangles three vertex numbers.
+/* Builds the sheet through a start cube, which from and start tell (MALXUQEED_FROM_DEFAULT and so on). Vertices are records of
+ * four numbers (edge, x, y, z; coordinates in 1/65536 of a sample step), triangles three vertex numbers.
  * Tests 1 to 7. The counts are true at 0, 6 and 7, else 0. */
-malxuqeed_built malxuqeed_build(malxuqeed_sizes sizes, bool named, malxuqeed_place start, const int16_t *samples,
+malxuqeed_built malxuqeed_build(malxuqeed_sizes sizes, uint32_t from, malxuqeed_place start, const int16_t *samples,
     size_t samples_len, int32_t *vertices, size_t vertices_len, uint32_t *triangles, size_t triangles_len, uint16_t *words,
     size_t words_len, uint32_t *waiting, size_t waiting_len, uint32_t *slots, size_t slots_len);
 
@@ -155,7 +163,7 @@ malxuqeed_got malxuqeed_read(const uint8_t *bytes, size_t bytes_len, int32_t *ve
 
 /* Checks a sheet file against its samples: 0 exactly when it holds the sheet from that start, in any order. Tests 1 to 5, then
  * 11, 12, 1, 14, 15, then 16 to 19. The place is that of the first wrong record or triangle at 15, 17 and 18, else 0. */
-malxuqeed_verdict malxuqeed_check(malxuqeed_sizes sizes, bool named, malxuqeed_place start, const int16_t *samples,
+malxuqeed_verdict malxuqeed_check(malxuqeed_sizes sizes, uint32_t from, malxuqeed_place start, const int16_t *samples,
     size_t samples_len, const uint8_t *bytes, size_t bytes_len, uint16_t *words, size_t words_len, uint32_t *waiting,
     size_t waiting_len, uint32_t *slots, size_t slots_len);
 

@@ -64,7 +64,7 @@ def library(folder, room):
     call.restype = Built
 
     def prepare(sizes, samples):
-        given = [Triple(*map(int, sizes)), ctypes.c_bool(False), Triple(0, 0, 0), *lent(samples)]
+        given = [Triple(*map(int, sizes)), ctypes.c_uint32(1), Triple(0, 0, 0), *lent(samples)]
         given += [*lent(room.vertices), *lent(room.triangles), *lent(room.words), *lent(room.waiting), *lent(room.slots)]
         return lambda: counts(call(*given))
     return prepare
@@ -76,7 +76,7 @@ def second(folder, name, room):
     shared.second_build.restype = Answer
 
     def prepare(sizes, samples):
-        given = [ctypes.c_void_p(sizes.ctypes.data), *lent(samples), None]
+        given = [ctypes.c_void_p(sizes.ctypes.data), *lent(samples), ctypes.c_uint(1), None]
         given += [*lent(room.words), *lent(room.waiting), *lent(room.slots), *lent(room.vertices), *lent(room.triangles)]
         return lambda: counts(shared.second_build(*given))
     return prepare

@@ -22,6 +22,7 @@ extern "C" {
         size: *const u16,
         samples: *const i16,
         sample_count: usize,
+        from: u32,
         start: *const u16,
         words: *mut u16,
         word_count: usize,
@@ -76,6 +77,14 @@ pub struct StlAnswer {
     pub count: usize,
 }
 
+/// Where a sheet starts: none named, the lowest crossed cube by name, or a cube.
+#[derive(Clone, Copy, Debug)]
+pub enum Start {
+    Unnamed,
+    Lowest,
+    Cube([u16; 3]),
+}
+
 /// What is lent: outputs and work room.
 pub struct Lent<'a> {
     pub vertices: &'a mut [i32],
@@ -86,16 +95,20 @@ pub struct Lent<'a> {
 }
 
 /// Builds; answers the refusal number, and the counts of vertices, triangles and cubes.
-pub fn build(sizes: [u16; 3], start: Option<[u16; 3]>, samples: &[i16], lent: Lent) -> [usize; 4] {
+pub fn build(sizes: [u16; 3], start: Start, samples: &[i16], lent: Lent) -> [usize; 4] {
     static TABLES: Once = Once::new();
     // SAFETY: it fills its own tables, and `Once` lets it run alone.
     TABLES.call_once(|| unsafe { second_init() });
-    let named = start.as_ref().map_or(std::ptr::null(), |cube| cube.as_ptr());
+    let (from, cube) = match start {
+        Start::Unnamed => (0, [0; 3]),
+        Start::Lowest => (1, [0; 3]),
+        Start::Cube(cube) => (2, cube),
+    };
     // SAFETY: each pointer comes with the length of its slice, and the slices are lent for the call alone.
     #[rustfmt::skip]
     let answer = unsafe {
         second_build(
-            sizes.as_ptr(), samples.as_ptr(), samples.len(), named,
+            sizes.as_ptr(), samples.as_ptr(), samples.len(), from, cube.as_ptr(),
             lent.words.as_mut_ptr(), lent.words.len(), lent.waiting.as_mut_ptr(), lent.waiting.len(),
             lent.slots.as_mut_ptr(), lent.slots.len(), lent.vertices.as_mut_ptr(), lent.vertices.len(),
             lent.triangles.as_mut_ptr(), lent.triangles.len(),

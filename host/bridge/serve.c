@@ -124,7 +124,7 @@ static void serve(const u64 *asked, u64 *answer)
     const place start = {asked[5], asked[6], asked[7]};
     switch (asked[0]) {
     case 0: {
-        built r = malxuqeed_build(z, asked[4] != 0, start, S(0, i16), S(1, i32), S(2, u32), S(3, u16), S(4, u32), S(5, u32));
+        built r = malxuqeed_build(z, (u32)asked[4], start, S(0, i16), S(1, i32), S(2, u32), S(3, u16), S(4, u32), S(5, u32));
         answer[0] = r.number; answer[1] = r.vertices; answer[2] = r.triangles; answer[3] = r.cubes;
         break;
     }
@@ -140,7 +140,7 @@ static void serve(const u64 *asked, u64 *answer)
         break;
     }
     case 3: {
-        verdict r = malxuqeed_check(z, asked[4] != 0, start, S(0, i16), S(1, u8), S(2, u16), S(3, u32), S(4, u32));
+        verdict r = malxuqeed_check(z, (u32)asked[4], start, S(0, i16), S(1, u8), S(2, u16), S(3, u32), S(4, u32));
         answer[0] = r.number; answer[1] = r.place;
         break;
     }

@@ -1,6 +1,6 @@
 //! The command line.
 
-use crate::abi::Place;
+use crate::abi::{self, Place};
 use crate::command::{Command, Opt};
 use crate::commands::{help, version, COMMANDS};
 use crate::failure::{escaped, Failure};
@@ -18,8 +18,10 @@ pub struct Given {
 /// Where a sheet starts.
 #[derive(Clone, Copy, Debug, PartialEq, Eq)]
 pub enum Start {
-    /// None is named: document 01's default.
+    /// None is named: document 02 (iv)'s default.
     Unnamed,
+    /// The lowest crossed cube, which was document 01's default.
+    Lowest,
     Cube(Place),
     /// By the sheet itself.
     Auto,
@@ -27,10 +29,19 @@ pub enum Start {
 
 impl Start {
     /// As the library takes it; `Auto` has to be settled before.
+    pub fn given(self) -> abi::Start {
+        match self {
+            Start::Lowest => abi::Start::Lowest,
+            Start::Cube(place) => abi::Start::Cube(place),
+            Start::Unnamed | Start::Auto => abi::Start::Unnamed,
+        }
+    }
+
+    /// The cube that is named by its place.
     pub fn named(self) -> Option<Place> {
         match self {
             Start::Cube(place) => Some(place),
-            Start::Unnamed | Start::Auto => None,
+            Start::Unnamed | Start::Lowest | Start::Auto => None,
         }
     }
 }
@@ -56,12 +67,15 @@ impl Given {
     /// The start that `--start` names.
     pub fn start(&self, option: &Opt) -> Result<Start, Failure> {
         let Some(value) = self.get(option) else { return Ok(Start::Unnamed) };
-        if value == "auto" && option.value.ends_with("auto") {
-            return Ok(Start::Auto);
-        }
+        let takes = |word: &str| value == word && option.value.split('|').any(|shape| shape == word);
         match triple(value.as_bytes()) {
             Some([x, y, z]) => Ok(Start::Cube(Place { x, y, z })),
-            None => usage(format!("--start takes {}: three whole numbers from 0, parted by commas", option.value)),
+            None if takes("lowest") => Ok(Start::Lowest),
+            None if takes("auto") => Ok(Start::Auto),
+            None => usage(format!(
+                "--start takes {}: X,Y,Z are three whole numbers from 0, parted by commas",
+                option.value.replace('|', " or ")
+            )),
         }
     }
 }
@@ -188,6 +202,11 @@ mod tests {
         let (_, given) = parsed("check v s --start auto").expect("a good line");
         assert_eq!(given.start(&START_OR_AUTO).ok(), Some(Start::Auto));
         assert!(given.start(&START).is_err());
+        for line in ["build v s --start lowest", "check v s --start=lowest", "list v --start lowest"] {
+            let (_, given) = parsed(line).expect("a good line");
+            assert_eq!(given.start(&START).ok(), Some(Start::Lowest));
+            assert_eq!(given.start(&START_OR_AUTO).ok(), Some(Start::Lowest));
+        }
         assert_eq!(parsed("list").map(|(_, given)| given.maybe(0).is_none()).ok(), Some(true));
         assert_eq!(parsed("show -- --help").map(|(_, given)| given.name(0) == Path::new("--help")).ok(), Some(true));
         let asked =

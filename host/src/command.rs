@@ -45,19 +45,27 @@ impl Opt {
     }
 }
 
-/// The start of `build` and `list`.
+/// The start of `build`.
 pub const START: Opt = Opt::with(
     "--start",
-    "X,Y,Z",
-    "the start cube, by its lowest corner; without it, the lowest cube that a surface crosses and that is free of the fill",
+    "X,Y,Z|lowest",
+    "the start cube, by its lowest corner, or the lowest cube that a surface crosses; without it, the lowest such cube with none \
+     of its six faces in the volume's bounds. A cube that holds the fill is never taken",
+);
+
+/// The start of `list`.
+pub const START_OF_LIST: Opt = Opt::with(
+    "--start",
+    "X,Y,Z|lowest",
+    "the start cube, by its lowest corner; without it, or with lowest, the lowest cube that a surface crosses",
 );
 
 /// The start of a sheet that is there already.
 pub const START_OR_AUTO: Opt = Opt::with(
     "--start",
-    "X,Y,Z|auto",
-    "the start cube that the sheet was built from; auto takes it from the sheet itself: the cubes round its first vertex \
-     are tried, and the answer says which one was taken",
+    "X,Y,Z|lowest|auto",
+    "the start cube that the sheet was built from, or lowest, the lowest cube that a surface crosses; auto takes it from the \
+     sheet itself: the cubes round its first vertex are tried, and the answer says which one was taken",
 );
 
 /// Of every command that writes a file.

@@ -1,7 +1,7 @@
 //! Cubes of a lattice: which are crossed, in which piece, and round which edge. The tool tells of them beside the library's
 //! answers; no verdict hangs on them.
 
-use crate::abi::{Place, Sizes};
+use crate::abi::{Place, Sizes, Start};
 use crate::volume::{Volume, FILL};
 
 /// The ends of each kind of edge, from its anchor (document 01).
@@ -93,6 +93,26 @@ impl Cubes<'_> {
 
     pub fn lowest_crossed(&self) -> Option<Place> {
         (0..self.count()).find(|&number| self.is_crossed(number)).map(|number| place(self.at(number)))
+    }
+
+    /// Whether none of a cube's six faces is in the lattice's bounds.
+    fn is_inside(&self, cube: [usize; 3]) -> bool {
+        (0..3).all(|axis| 0 < cube[axis] && cube[axis] + 2 < self.sizes[axis])
+    }
+
+    /// The start where none is named: the lowest crossed cube with none of its faces in the bounds.
+    fn lowest_inside(&self) -> Option<Place> {
+        let fit = |number: &usize| self.is_inside(self.at(*number)) && self.is_crossed(*number);
+        (0..self.count()).find(fit).map(|number| place(self.at(number)))
+    }
+
+    /// The start cube that the library takes, where it takes one; a cube that is named may be none.
+    pub fn start(&self, start: Start) -> Option<Place> {
+        match start {
+            Start::Unnamed => self.lowest_inside(),
+            Start::Lowest => self.lowest_crossed(),
+            Start::Cube(place) => Some(place),
+        }
     }
 
     /// The visitable cubes across the mixed faces of a cube.
@@ -192,6 +212,17 @@ mod tests {
         assert_eq!(pieces, [Piece { start: Place::default(), cubes: 8 }]);
         assert_eq!(Cubes::of(&volume([2, 2, 2], &[])).and_then(|cubes| cubes.lowest_crossed()), None);
         assert!(Cubes::of(&Volume::default()).is_none());
+    }
+
+    #[test]
+    fn starts() {
+        let of = |sizes, air: &[usize], start| Cubes::of(&volume(sizes, air)).and_then(|cubes| cubes.start(start));
+        let at = |x, y, z| Some(Place { x, y, z });
+        assert_eq!(of([4; 3], &[21], Start::Unnamed), at(1, 1, 1));
+        assert_eq!(of([4; 3], &[21], Start::Lowest), at(0, 0, 0));
+        assert_eq!((of([3; 3], &[13], Start::Unnamed), of([4; 3], &[0], Start::Unnamed)), (None, None));
+        assert_eq!(of([6, 4, 4], &[0, 64], Start::Unnamed), at(3, 1, 1));
+        assert_eq!(of([2; 3], &[], Start::Cube(Place { x: 7, y: 0, z: 0 })), at(7, 0, 0));
     }
 
     #[test]

@@ -130,7 +130,7 @@ fn samples(path: &Path, volume: &Volume) -> String {
     format!("{} asks for {wanted} samples, {} holds {held}", sizes_text(volume.sizes), shown(path))
 }
 
-/// Refusal 5: what is at the start's corners, or why no cube is crossed.
+/// Refusal 5: what is at the start's corners, or whether no cube is crossed or only cubes at the bounds are.
 fn not_crossed(path: &Path, volume: &Volume, start: Option<Place>) -> Option<String> {
     let cubes = Cubes::of(volume)?;
     let name = shown(path);
@@ -148,7 +148,17 @@ fn not_crossed(path: &Path, volume: &Volume, start: Option<Place>) -> Option<Str
                 ),
             }
         }
-        None => format!("no surface is in {name}: {}", nowhere(volume)),
+        None => match cubes.lowest_crossed() {
+            Some(lowest) => {
+                let free = if volume.samples.contains(&FILL) { " and that is free of the scanner's fill" } else { "" };
+                format!(
+                    "each cube of {name} that a surface crosses{free} has a face in the volume's bounds, and where no start is \
+                     named such a cube is not taken; the lowest of them is {}, which --start lowest takes",
+                    place_text(lowest)
+                )
+            }
+            None => format!("no surface is in {name}: {}", nowhere(volume)),
+        },
     })
 }
 

@@ -17,15 +17,14 @@ pub struct Judged {
 pub fn judge(volume: &Volume, bytes: &[u8], start: Start, room: &mut Room) -> Judged {
     match start {
         Start::Auto => automatic(volume, bytes, room),
-        Start::Cube(place) => Judged { verdict: check(volume, bytes, Some(place), room), start: Some(place) },
-        Start::Unnamed => {
-            let taken = Cubes::of(volume).and_then(|cubes| cubes.lowest_crossed());
-            Judged { verdict: check(volume, bytes, None, room), start: taken }
+        Start::Unnamed | Start::Lowest | Start::Cube(_) => {
+            let found = || Cubes::of(volume).and_then(|cubes| cubes.start(start.given()));
+            Judged { verdict: check(volume, bytes, start.given(), room), start: start.named().or_else(found) }
         }
     }
 }
 
-fn check(volume: &Volume, bytes: &[u8], start: Option<Place>, room: &mut Room) -> Verdict {
+fn check(volume: &Volume, bytes: &[u8], start: abi::Start, room: &mut Room) -> Verdict {
     abi::check(volume.from(start), bytes, room.lend(volume.sizes))
 }
 
@@ -33,20 +32,20 @@ fn check(volume: &Volume, bytes: &[u8], start: Option<Place>, room: &mut Room) -
 /// which are on one surface, or on several where fill parts them; if one of them is accepted, so is the file. Where that edge
 /// is crossed in no cube, the file is wrong from every start, and the first record that says more is taken instead.
 fn automatic(volume: &Volume, bytes: &[u8], room: &mut Room) -> Judged {
-    let unnamed = |room: &mut Room| Judged { verdict: check(volume, bytes, None, room), start: None };
-    let Some(cubes) = Cubes::of(volume) else { return unnamed(room) };
+    let unfound = |room: &mut Room| Judged { verdict: check(volume, bytes, abi::Start::Lowest, room), start: None };
+    let Some(cubes) = Cubes::of(volume) else { return unfound(room) };
     let sheet = match Sheet::read(bytes) {
         Ok(sheet) => sheet,
         Err(verdict) => return Judged { verdict, start: None },
     };
     if sheet.sizes != volume.sizes {
-        return unnamed(room);
+        return unfound(room);
     }
     let rounds = sheet.records().map(|record| cubes.round_edge(record[0]));
-    let Some(starts) = rounds.into_iter().find(|starts| !starts.is_empty()) else { return unnamed(room) };
+    let Some(starts) = rounds.into_iter().find(|starts| !starts.is_empty()) else { return unfound(room) };
     let mut best: Option<Judged> = None;
     for start in starts {
-        let tried = Judged { verdict: check(volume, bytes, Some(start), room), start: Some(start) };
+        let tried = Judged { verdict: check(volume, bytes, abi::Start::Cube(start), room), start: Some(start) };
         if tried.verdict.number == 0 {
             return tried;
         }
@@ -56,5 +55,5 @@ fn automatic(volume: &Volume, bytes: &[u8], room: &mut Room) -> Judged {
             best = Some(tried);
         }
     }
-    best.unwrap_or_else(|| unnamed(room))
+    best.unwrap_or_else(|| unfound(room))
 }

@@ -1,6 +1,6 @@
 //! Which triangles of a file are wrong, one by one. The sheet to compare with is the library's own.
 
-use crate::abi::Place;
+use crate::abi::{Place, Start};
 use crate::room::Room;
 use crate::sheet::Sheet;
 use crate::volume::Volume;
@@ -36,9 +36,9 @@ impl Marks {
     }
 }
 
-/// The marks of a file; none where there is no sheet to compare with.
+/// The marks of a file against the sheet from a cube, or from the lowest crossed one; none where there is no sheet to compare with.
 pub fn marks(file: &Sheet, volume: &Volume, start: Option<Place>, room: &mut Room) -> Option<Marks> {
-    let (built, sheet) = Sheet::build(volume, start, room);
+    let (built, sheet) = Sheet::build(volume, start.map_or(Start::Lowest, Start::Cube), room);
     if built.number != 0 || file.sizes != sheet.sizes {
         return None;
     }

@@ -115,10 +115,11 @@ pub const NUMBERS: [Number; 21] = [
     row(
         5,
         "NOT_CROSSED",
-        "the surface does not pass through the start cube, or that holds the fill, or, none named, through any cube free of the fill",
-        "'malxuqeed info' lists starts of every surface of a volume; a cube with a corner of -32768, the scanner's fill, is no \
-         start. If it lists none, the level or the sign of the samples is wrong: air is above 0, solid is 0 and below; or \
-         fill covers all that the surface passes through.",
+        "the surface does not pass through the named start cube, or that cube holds the fill; or no cube is named, and none is \
+         crossed, or only cubes at the bounds are",
+        "'malxuqeed info' lists a start of every surface of a volume, and --start lowest takes the first of them, at the bounds or \
+         not; a cube with a corner of -32768, the scanner's fill, is no start. If it lists none, the level or the sign of the \
+         samples is wrong: air is above 0, solid is 0 and below; or fill covers all that the surface passes through.",
     ),
     row(6, "VERTEX_ROOM", "the sheet has more vertices than there is room for", "Lend room for as many vertices as the answer counts."),
     row(7, "TRIANGLE_ROOM", "the sheet has more triangles than there is room for", "Lend room for as many triangles as the answer counts.")

@@ -1,6 +1,6 @@
 //! Sheets in memory: as the library builds them, and as it reads them from a file.
 
-use crate::abi::{self, Built, Place, Sizes, Verdict};
+use crate::abi::{self, Built, Sizes, Start, Verdict};
 use crate::room::{self, Room};
 use crate::volume::Volume;
 
@@ -28,7 +28,7 @@ impl Sheet {
     }
 
     /// Builds with room for the largest sheet of the lattice.
-    pub fn build(volume: &Volume, start: Option<Place>, room: &mut Room) -> (Built, Sheet) {
+    pub fn build(volume: &Volume, start: Start, room: &mut Room) -> (Built, Sheet) {
         let mut vertices = vec![0; room::vertex_numbers(volume.sizes)];
         let mut triangles = vec![0; room::triangle_numbers(volume.sizes)];
         let built = abi::build(volume.from(start), &mut vertices, &mut triangles, room.lend(volume.sizes));

@@ -1,6 +1,6 @@
 //! Volume files: nx, ny, nz (u16) and the samples (i16, by sample number), little-endian.
 
-use crate::abi::{Lattice, Place, Sizes};
+use crate::abi::{Lattice, Sizes, Start};
 use crate::failure::Failure;
 use crate::files;
 use crate::room;
@@ -50,7 +50,7 @@ impl Volume {
         head.chain(self.samples.iter().flat_map(|sample| sample.to_le_bytes())).collect()
     }
 
-    pub fn from(&self, start: Option<Place>) -> Lattice<'_> {
+    pub fn from(&self, start: Start) -> Lattice<'_> {
         Lattice { sizes: self.sizes, start, samples: &self.samples }
     }
 

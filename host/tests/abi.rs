@@ -1,6 +1,6 @@
 //! Every function of the library with every argument distinct, so that two in each other's place are noticed.
 
-use host::abi::{self, Built, Got, Lattice, Level, Loaded, Place, Sizes, Verdict, Work, Wrote};
+use host::abi::{self, Built, Got, Lattice, Level, Loaded, Place, Sizes, Start, Verdict, Work, Wrote};
 
 const SIZES: [usize; 3] = [2, 3, 4];
 const START: [usize; 3] = [0, 1, 2];
@@ -17,7 +17,7 @@ fn samples() -> Vec<i16> {
 
 fn lattice(samples: &[i16]) -> Lattice<'_> {
     let ([nx, ny, nz], [x, y, z]) = (SIZES, START);
-    Lattice { sizes: Sizes { nx, ny, nz }, start: Some(Place { x, y, z }), samples }
+    Lattice { sizes: Sizes { nx, ny, nz }, start: Start::Cube(Place { x, y, z }), samples }
 }
 
 /// All that a build is lent, each slice of another length and with other contents.
@@ -61,17 +61,22 @@ impl Lent {
 #[test]
 fn build() {
     let samples = samples();
-    for start in [Some(START), None] {
+    for start in [second::Start::Cube(START), second::Start::Lowest] {
         let (mut ours, mut theirs) = (Lent::new(), Lent::new());
-        let place = start.map(|[x, y, z]| Place { x, y, z });
-        let built = ours.build(Lattice { start: place, ..lattice(&samples) });
+        let lowest = start == second::Start::Lowest;
+        let own = if lowest { Lattice { start: Start::Lowest, ..lattice(&samples) } } else { lattice(&samples) };
+        let built = ours.build(own);
         let [number, vertices, triangles, cubes] =
             theirs.second_build(second::Volume { sizes: SIZES, start, samples: &samples });
         assert_eq!(built, Built { number, vertices, triangles, cubes });
         assert_eq!(number, 0);
-        assert!(start.is_none() || vertices != triangles && triangles != cubes && vertices != cubes);
+        assert!(lowest || vertices != triangles && triangles != cubes && vertices != cubes);
         assert_eq!(ours, theirs);
     }
+    // no cube of two samples an axis is off the bounds, so where none is named there is no start
+    let mut lent = Lent::new();
+    assert_eq!(lent.build(Lattice { start: Start::Unnamed, ..lattice(&samples) }).number, 5);
+    assert_eq!(lent, Lent::new());
 }
 
 /// A change to what is lent.
@@ -97,7 +102,10 @@ fn build_with_one_thing_short() {
         let mut start = START;
         start[axis] = SIZES[axis] - 1;
         let [x, y, z] = start;
-        assert_eq!(Lent::new().build(Lattice { start: Some(Place { x, y, z }), ..lattice(&samples) }).number, number);
+        assert_eq!(
+            Lent::new().build(Lattice { start: Start::Cube(Place { x, y, z }), ..lattice(&samples) }).number,
+            number
+        );
     }
 }
 
@@ -171,8 +179,10 @@ fn check() {
     assert_eq!(verdict(&turned), Verdict { number: 16, place: 0 });
 
     let file = second::serialize(&sheet);
-    let other = Lattice { start: None, ..lattice(&samples) };
+    let other = Lattice { start: Start::Lowest, ..lattice(&samples) };
     assert_ne!(Lent::new().check(other, &file).number, 0);
+    let unnamed = Lattice { start: Start::Unnamed, ..lattice(&samples) };
+    assert_eq!(Lent::new().check(unnamed, &file), Verdict { number: 5, place: 0 });
     let short: [Shorter; 3] = [
         |lent| lent.words.truncate(CUBES - 1),
         |lent| lent.waiting.truncate(CUBES - 1),

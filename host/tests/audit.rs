@@ -138,7 +138,7 @@ fn small(name: &str) -> Folder {
     let folder = Folder::new(name);
     folder.put("l.vol", &listed());
     folder.put("a b.vol", &pair());
-    folder.run("build l.vol l.sheet").well("3 1 1\n");
+    folder.run("build l.vol l.sheet --start lowest").well("3 1 1\n");
     folder.run_words(&["build", "a b.vol", "a b.sheet", "--start", "3,0,0"]).told("5 3 1\n", "--start 0,0,0");
     let mut moved = folder.get("l.sheet");
     moved[4] ^= 1;

@@ -45,8 +45,8 @@ fn the_whole_way() {
     voxels[13] = 0.25;
     folder.put("f.flt", &floats([3; 3], &voxels));
     folder.run("convert f.flt v.vol --air 0 --material 1 --scale 64").well("3 3 3\n");
-    folder.run("build v.vol v.sheet").well("14 24 8\n");
-    folder.run("check v.vol v.sheet").well("accepted\n");
+    folder.run("build v.vol v.sheet --start lowest").well("14 24 8\n");
+    folder.run("check v.vol v.sheet --start lowest").well("accepted\n");
     folder.run("stl v.sheet v.stl").well("24\n");
     assert_eq!(folder.run("facets v.stl").output.lines().count(), 25);
 }

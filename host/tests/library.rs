@@ -18,6 +18,20 @@ fn shell(folder: &Folder, line: &str) -> Run {
     Run::of(Command::new("sh").args(words).current_dir(&folder.0).output().expect("a shell"))
 }
 
+/// Three samples of air in 8 x 4 x 4, each on a surface of its own: the lowest of all, the lowest off the bounds, one that is named.
+const STARTS: &[u8] = b"#include <malxuqeed.h>\n#include <stdio.h>\n\
+    static int16_t samples[128];\nstatic int32_t vertices[4 * 896];\nstatic uint32_t triangles[36 * 63];\n\
+    static uint16_t words[63];\nstatic uint32_t waiting[63], slots[896];\n\
+    int main(void) {\n\
+    malxuqeed_sizes sizes = {8, 4, 4};\nmalxuqeed_place named = {6, 0, 0};\n\
+    uint32_t from[] = {MALXUQEED_FROM_DEFAULT, MALXUQEED_FROM_LOWEST, MALXUQEED_FROM_CUBE, 3, 4294967295u};\n\
+    for (int n = 0; n < 128; n++) samples[n] = n == 0 || n == 7 || n == 2 + 8 * (2 + 4 * 2) ? 1 : -1;\n\
+    for (int i = 0; i < 5; i++) {\n\
+    malxuqeed_built b = malxuqeed_build(sizes, from[i], named, samples, 128, vertices, 4 * 896, triangles, 36 * 63,\n\
+    words, 63, waiting, 63, slots, 896);\n\
+    printf(\"%lu: %zu %zu %zu %zu\\n\", (unsigned long)from[i], b.number, b.vertices, b.triangles, b.cubes);\n\
+    }\nreturn 0; }\n";
+
 #[test]
 fn installed_moved_and_called_from_c_and_python() {
     if host::abi::EMULATED {
@@ -39,7 +53,7 @@ fn installed_moved_and_called_from_c_and_python() {
     }
     folder.put("l.vol", &listed());
     folder.put("p.vol", &pair());
-    shell(&folder, "moved/bin/malxuqeed build l.vol l.sheet").well("3 1 1\n");
+    shell(&folder, "moved/bin/malxuqeed build l.vol l.sheet --start lowest").well("3 1 1\n");
 
     let flags = "PKG_CONFIG_PATH=moved/lib/pkgconfig pkg-config";
     let compile = "cc -std=c99 -O2 -Wall -Wextra -Wpedantic -Werror \"$1/examples/sheet.c\"";
@@ -53,9 +67,16 @@ fn installed_moved_and_called_from_c_and_python() {
     assert_eq!((run.status, run.output.as_str()), (Some(1), ""));
     assert!(run.errors.contains("building refused, 5: the surface does not pass"), "{run:?}");
 
+    folder.put("starts.c", STARTS);
+    let compile = "cc -std=c99 -Wall -Wextra -Wpedantic -Werror starts.c";
+    shell(&folder, &format!("{compile} $({flags} --cflags malxuqeed) moved/lib/libmalxuqeed.a -o starts")).well("");
+    shell(&folder, "./starts").well("0: 0 14 24 8\n1: 0 3 1 1\n2: 0 5 3 1\n3: 0 5 3 1\n4294967295: 0 5 3 1\n");
+
     shell(&folder, "./static p.vol p.sheet").well("3 1 1, 84 bytes, accepted\n");
-    let python = "MALXUQEED_SO=moved/lib/libmalxuqeed.so.0 python3 \"$1/examples/check.py\"";
-    shell(&folder, &format!("{python} l.vol l.sheet")).well("accepted\n");
+    let python = "MALXUQEED_SO=moved/lib/libmalxuqeed.so.1 python3 \"$1/examples/check.py\"";
+    shell(&folder, &format!("{python} l.vol l.sheet lowest")).well("accepted\n");
+    let run = shell(&folder, &format!("{python} l.vol l.sheet"));
+    assert_eq!((run.status, run.output.as_str()), (Some(1), "refused 5 0\n"));
     shell(&folder, &format!("{python} p.vol p.sheet 0,0,0")).well("accepted\n");
     let run = shell(&folder, &format!("{python} p.vol p.sheet 3,0,0"));
     assert_eq!((run.status, run.output.as_str()), (Some(1), "refused 17 0\n"));
@@ -64,7 +85,8 @@ fn installed_moved_and_called_from_c_and_python() {
 #[test]
 fn the_header_says_what_the_tool_says() {
     let header = std::fs::read_to_string(format!("{ROOT}/include/malxuqeed.h")).expect("the header");
-    let flat = header.split_whitespace().collect::<Vec<_>>().join(" ");
+    // a sentence of two lines is two strings side by side
+    let flat = header.split_whitespace().collect::<Vec<_>>().join(" ").replace("\" \"", "");
     for row in &host::numbers::NUMBERS {
         assert!(flat.contains(&format!("MALXUQEED_{} = {}", row.name, row.number)), "{}", row.name);
         let case = format!("case MALXUQEED_{}: return \"{}\";", row.name, row.means);

@@ -29,7 +29,7 @@ fn a_hundred_runs_hit_by_signals_leave_no_torn_and_no_stray_file() {
     let folder = Folder::new("signals");
     folder.put("v.vol", &noise());
     let began = Instant::now();
-    assert_eq!(folder.run("build v.vol s.sheet").status, Some(0));
+    assert_eq!(folder.run("build v.vol s.sheet --start lowest").status, Some(0));
     let (whole, long) = (folder.get("s.sheet"), began.elapsed());
     let mut random = Random::new(100);
     let mut hit = 0;
@@ -63,7 +63,7 @@ fn a_hundred_runs_hit_by_signals_leave_no_torn_and_no_stray_file() {
 fn audits_hit_by_signals_leave_no_report() {
     let folder = Folder::new("reports");
     folder.put("v.vol", &noise());
-    assert_eq!(folder.run("build v.vol s.sheet").status, Some(0));
+    assert_eq!(folder.run("build v.vol s.sheet --start lowest").status, Some(0));
     folder.put("m", "v.vol s.sheet\n".repeat(2000).as_bytes());
     for signal in ["INT", "TERM", "HUP"] {
         let mut child = Command::new(TOOL)
@@ -131,7 +131,7 @@ fn what_dead_processes_left_is_swept() {
         "l.sheet".to_string(),
         "l.vol".to_string(),
     ];
-    folder.run("build l.vol l.sheet").well("3 1 1\n");
+    folder.run("build l.vol l.sheet --start lowest").well("3 1 1\n");
     stay.sort();
     assert_eq!(folder.names(), stay);
 }
@@ -143,10 +143,10 @@ fn a_write_protected_file_is_replaced_by_force_alone() {
     folder.put("s.sheet", b"precious");
     let path = folder.0.join("s.sheet");
     fs::set_permissions(&path, fs::Permissions::from_mode(0o444)).expect("rights");
-    folder.run("build l.vol s.sheet").failed_with("write-protected; --force replaces it");
+    folder.run("build l.vol s.sheet --start lowest").failed_with("write-protected; --force replaces it");
     assert_eq!(folder.get("s.sheet"), b"precious");
     assert_eq!(folder.names(), ["l.vol", "s.sheet"]);
-    folder.run("build l.vol s.sheet --force").well("3 1 1\n");
+    folder.run("build l.vol s.sheet --start lowest --force").well("3 1 1\n");
     assert_eq!(folder.get("s.sheet").len(), 84);
     assert_eq!(path.metadata().map(|about| about.permissions().mode() & 0o777).ok(), Some(0o444));
 }
@@ -155,13 +155,13 @@ fn a_write_protected_file_is_replaced_by_force_alone() {
 fn streams_in_place_of_files() {
     let folder = Folder::new("streams");
     folder.put("l.vol", &listed());
-    folder.run("build l.vol l.sheet").well("3 1 1\n");
-    let run = folder.shell("\"$1\" build - - < l.vol > piped.sheet");
+    folder.run("build l.vol l.sheet --start lowest").well("3 1 1\n");
+    let run = folder.shell("\"$1\" build - - --start lowest < l.vol > piped.sheet");
     assert_eq!((run.status, run.errors.as_str()), (Some(0), "malxuqeed: 3 1 1\n"));
     assert_eq!(folder.get("piped.sheet"), folder.get("l.sheet"));
-    folder.shell("\"$1\" check - l.sheet < l.vol").well("accepted\n");
-    folder.shell("\"$1\" check l.vol - < l.sheet").well("accepted\n");
-    folder.run("check - -").failed_with("read once only");
+    folder.shell("\"$1\" check - l.sheet --start lowest < l.vol").well("accepted\n");
+    folder.shell("\"$1\" check l.vol - --start lowest < l.sheet").well("accepted\n");
+    folder.run("check - - --start lowest").failed_with("read once only");
     folder.shell("\"$1\" show - < l.sheet | head -n 1").well("3 1 2 2 2\n");
     folder.shell("\"$1\" info - < l.vol | head -n 1").well("sizes 2 2 2\n");
     let run =
@@ -179,7 +179,7 @@ fn streams_in_place_of_files() {
 fn closed_standard_output_is_an_error() {
     let folder = Folder::new("closed");
     folder.put("l.vol", &listed());
-    for line in ["list l.vol", "build l.vol l.sheet", "--version"] {
+    for line in ["list l.vol", "build l.vol l.sheet --start lowest", "--version"] {
         folder.shell(&format!("\"$1\" {line} >&-")).failed_with("standard output is closed");
     }
     assert_eq!(folder.names(), ["l.vol"]);

@@ -9,7 +9,7 @@ fn each_refusal_names_its_files_and_values() {
     let folder = Folder::new("messages");
     folder.put("l.vol", &listed());
     folder.put("p.vol", &pair());
-    folder.run("build l.vol l.sheet").well("3 1 1\n");
+    folder.run("build l.vol l.sheet --start lowest").well("3 1 1\n");
     let sheet = folder.get("l.sheet");
     let says = |line: &str, refusal: &str, words: &[&str]| {
         let run = folder.run(line);
@@ -53,35 +53,43 @@ fn each_refusal_names_its_files_and_values() {
     put("short.sheet", |bytes| bytes.truncate(20));
     says("show short.sheet", "refused 11 0", &["short.sheet has 20 bytes", "fetch it again"]);
     put("mark.sheet", |bytes| bytes[82] = 0);
-    says("check l.vol mark.sheet", "refused 12 0", &["mark.sheet ends in 21248, a sheet file in the mark 21331"]);
+    says(
+        "check l.vol mark.sheet --start lowest",
+        "refused 12 0",
+        &["mark.sheet ends in 21248, a sheet file in the mark 21331"],
+    );
     put("axis.sheet", |bytes| bytes[76] = 1);
-    says("check l.vol axis.sheet", "refused 1 0", &["axis.sheet says 1 x 2 x 2 samples"]);
+    says("check l.vol axis.sheet --start lowest", "refused 1 0", &["axis.sheet says 1 x 2 x 2 samples"]);
     put("cut.sheet", |bytes| drop(bytes.drain(..16)));
     says(
-        "check l.vol cut.sheet",
+        "check l.vol cut.sheet --start lowest",
         "refused 14 0",
         &["cut.sheet says 3 vertices and 1 triangles, which makes 84 bytes", "it has 68"],
     );
     put("stray.sheet", |bytes| bytes[52] = 9);
     says(
-        "check l.vol stray.sheet",
+        "check l.vol stray.sheet --start lowest",
         "refused 15 0",
         &["triangle 0 of stray.sheet", "names vertex 9, where there are 3"],
     );
-    says("check p.vol l.sheet", "refused 16 0", &["l.sheet is a sheet of 2 x 2 x 2 samples, p.vol has 5 x 2 x 2"]);
+    says(
+        "check p.vol l.sheet --start lowest",
+        "refused 16 0",
+        &["l.sheet is a sheet of 2 x 2 x 2 samples, p.vol has 5 x 2 x 2"],
+    );
     put("moved.sheet", |bytes| bytes[24] ^= 1);
     let causes = ["vertex record 1, counted from 0, says edge 1 at 0 49153 0", "Likely causes", "another grey level"];
-    says("check l.vol moved.sheet", "refused 17 1", &causes);
+    says("check l.vol moved.sheet --start lowest", "refused 17 1", &causes);
     put("turned.sheet", |bytes| bytes.swap(48, 52));
     let causes =
         ["triangle 0, counted from 0, joins vertices 2 1 0", "sorted or joined without renumbering", "mirrored"];
-    says("check l.vol turned.sheet", "refused 18 0", &causes);
+    says("check l.vol turned.sheet --start lowest", "refused 18 0", &causes);
     folder.put(
         "none.sheet",
         &second::serialize(&second::Content { triangles: vec![], ..second::parse(&sheet).expect("a sheet") }),
     );
     says(
-        "check l.vol none.sheet",
+        "check l.vol none.sheet --start lowest",
         "refused 19 0",
         &["none.sheet, which holds 3 vertices and 0 triangles", "build the sheet anew"],
     );
@@ -109,7 +117,7 @@ fn refusal_5_tells_of_the_fill() {
     let holds = "cube 0,0,0 of one.vol holds the scanner's fill: 1 of its eight corners are -32768, which is no sample";
     says("list one.vol --start 0,0,0", &[holds, "such a cube is never visited"]);
     says("build one.vol one.sheet --start 0,0,0", &[holds]);
-    folder.run("build one.vol one.sheet").well("14 23 7\n");
+    folder.run("build one.vol one.sheet --start lowest").well("14 23 7\n");
     folder.run("build one.vol one.sheet --start 1,1,1").well("14 23 7\n");
     folder.run("check one.vol one.sheet --start 0,0,0").refused("refused 5 0");
     folder.run("check one.vol one.sheet --start auto").well("accepted\nstart 1,0,0\n");
@@ -121,12 +129,12 @@ fn refusal_5_tells_of_the_fill() {
     old.records.push([edge, 0, 0, 0]);
     old.triangles.push([vertex, 0, 1]);
     folder.put("old.sheet", &second::serialize(&old));
-    let run = folder.run("check one.vol old.sheet");
+    let run = folder.run("check one.vol old.sheet --start lowest");
     run.refused(&format!("refused 17 {vertex}"));
     assert!(!run.errors.contains("ends at the scanner's fill"), "{run:?}");
     old.records[vertex as usize][0] = 0;
     folder.put("old.sheet", &second::serialize(&old));
-    let run = folder.run("check one.vol old.sheet");
+    let run = folder.run("check one.vol old.sheet --start lowest");
     run.refused(&format!("refused 17 {vertex}"));
     assert!(run.errors.contains("says edge 0 at 0 0 0, and that edge ends at the scanner's fill"), "{run:?}");
     // each of the eight cubes has one of these
@@ -150,7 +158,7 @@ fn starts_from_the_sheet_where_fill_parts_pieces() {
     let mut samples = [-1; 18];
     (samples[0], samples[4], samples[8]) = (i16::MIN, 1, i16::MIN);
     folder.put("p.vol", &volume([3, 3, 2], &samples));
-    folder.run("build p.vol a.sheet").told("5 3 1\n", "the next one is built with --start 0,1,0\n");
+    folder.run("build p.vol a.sheet --start lowest").told("5 3 1\n", "the next one is built with --start 0,1,0\n");
     folder.run("build p.vol b.sheet --start 0,1,0").told("5 3 1\n", "the next one is built with --start 1,0,0\n");
     // both surfaces have a vertex on edge 30; where it comes first, the cubes of both are tried
     for (name, start) in [("a.sheet", "1,0,0"), ("b.sheet", "0,1,0")] {
@@ -183,13 +191,78 @@ fn starts_from_the_sheet() {
     folder.run("build p.vol b.sheet --start 3,0,0");
     folder.run("check p.vol a.sheet --start auto").well("accepted\nstart 0,0,0\n");
     folder.run("check p.vol b.sheet --start=auto").well("accepted\nstart 3,0,0\n");
-    folder.run("check p.vol b.sheet").refused("refused 17 0");
+    folder.run("check p.vol b.sheet --start lowest").refused("refused 17 0");
     folder.run("check p.vol b.sheet --start 0,0,0").refused("refused 17 0");
     folder.put("short.sheet", &[0; 23]);
     folder.run("check p.vol short.sheet --start auto").refused("refused 11 0");
     folder.put("solid.vol", &volume([5, 2, 2], &[-1; 20]));
     folder.run("check solid.vol short.sheet --start auto").refused("refused 11 0");
-    folder.run("check solid.vol short.sheet").refused("refused 5 0");
+    folder.run("check solid.vol short.sheet --start lowest").refused("refused 5 0");
     folder.run("check solid.vol a.sheet --start auto").refused("refused 5 0");
-    folder.run("build p.vol c.sheet --start auto").failed_with("--start takes X,Y,Z");
+    folder
+        .run("build p.vol c.sheet --start auto")
+        .failed_with("--start takes X,Y,Z or lowest: X,Y,Z are three whole numbers");
+    folder.run("check p.vol a.sheet --start default").failed_with("--start takes X,Y,Z or lowest or auto");
+}
+
+/// Document 02 (iv): a start that nobody names has no face in the bounds, and `lowest` names the one that was taken before.
+#[test]
+fn starts_that_nobody_names() {
+    let folder = Folder::new("unnamed");
+    let mut samples = [-1; 96];
+    (samples[0], samples[64]) = (1, 1);
+    folder.put("tray.vol", &volume([6, 4, 4], &samples));
+    folder.run("build tray.vol inside.sheet").told("14 24 8\n", "the next one is built with --start 0,0,0\n");
+    folder
+        .run("build tray.vol lowest.sheet --start lowest")
+        .told("3 1 1\n", "the next one is built with --start 3,1,1\n");
+    folder.run("check tray.vol inside.sheet").well("accepted\n");
+    folder.run("check tray.vol inside.sheet --start 3,1,1").well("accepted\n");
+    folder.run("check tray.vol inside.sheet --start lowest").refused("refused 17 0");
+    folder.run("check tray.vol lowest.sheet --start=lowest").well("accepted\n");
+    folder.run("check tray.vol lowest.sheet").refused("refused 17 0");
+    for line in ["list tray.vol", "list tray.vol --start lowest"] {
+        assert_eq!(folder.run(line).output.lines().next(), Some("3 1 1"));
+    }
+    folder.put(
+        "m.txt",
+        b"tray.vol inside.sheet\ntray.vol inside.sheet default\n\
+          tray.vol lowest.sheet lowest\ntray.vol lowest.sheet default\n",
+    );
+    let audit = folder.run("audit m.txt").output;
+    let wanted = "accepted tray.vol inside.sheet 3,1,1\naccepted tray.vol inside.sheet 3,1,1\naccepted tray.vol lowest.sheet 0,0,0\n\
+                  refused 17 0 tray.vol lowest.sheet 3,1,1\nsheets 4, accepted 3, refused 1, unread 0\n";
+    assert!(audit.starts_with(wanted), "{audit}");
+}
+
+/// Refusal 5 says whether no cube is crossed or only cubes at the bounds are, and names the lowest of these.
+#[test]
+fn refusal_5_tells_of_the_bounds() {
+    let folder = Folder::new("bounds");
+    folder.put("m.vol", &middle(&[]));
+    let words = "each cube of m.vol that a surface crosses has a face in the volume's bounds";
+    let lowest = "the lowest of them is 0,0,0, which --start lowest takes";
+    folder.run("build m.vol m.sheet --start lowest").well("14 24 8\n");
+    for (line, first) in [("build m.vol n.sheet", "refused 5"), ("check m.vol m.sheet", "refused 5 0")] {
+        let run = folder.run(line);
+        run.refused(first);
+        assert!(run.errors.contains(words) && run.errors.contains(lowest), "{run:?}");
+    }
+    folder.put("m.txt", b"m.vol m.sheet default\n");
+    let audit = folder.run("audit m.txt --json -");
+    assert!(audit.status == Some(1) && audit.output.contains("\"number\": 5"), "{audit:?}");
+    folder.put("solid.vol", &middle(&[13]));
+    for line in ["build solid.vol n.sheet", "build solid.vol n.sheet --start lowest"] {
+        let run = folder.run(line);
+        run.refused("refused 5");
+        assert!(run.errors.contains("no surface is in solid.vol") && !run.errors.contains("bounds, and"), "{run:?}");
+    }
+    // the fill leaves the cubes at the bounds alone
+    let mut samples = [-1; 64];
+    (samples[21], samples[42]) = (1, i16::MIN);
+    folder.put("f.vol", &volume([4, 4, 4], &samples));
+    let run = folder.run("build f.vol n.sheet");
+    run.refused("refused 5");
+    let words = "each cube of f.vol that a surface crosses and that is free of the scanner's fill has a face in the volume's bounds";
+    assert!(run.errors.contains(words) && run.errors.contains(lowest), "{run:?}");
 }

@@ -13,7 +13,7 @@ const FACETS: &str = "1\nf 0 49152 0 0 0 49152 49152 0 0\n";
 fn exported(name: &str) -> Folder {
     let folder = Folder::new(name);
     folder.put("l.vol", &listed());
-    folder.run("build l.vol l.sheet").well("3 1 1\n");
+    folder.run("build l.vol l.sheet --start lowest").well("3 1 1\n");
     folder.run("stl l.sheet l.stl").well("1\n");
     folder
 }
@@ -66,7 +66,7 @@ fn a_full_disk_leaves_the_old_file() {
     let folder = exported("stl-full");
     let samples: Vec<i16> = (0..1000).map(|n| if n * 7 % 5 == 0 { 9 } else { -9 }).collect();
     folder.put("v.vol", &volume([10, 10, 10], &samples));
-    assert_eq!(folder.run("build v.vol v.sheet").status, Some(0));
+    assert_eq!(folder.run("build v.vol v.sheet --start lowest").status, Some(0));
     let (names, old) = (folder.names(), folder.get("l.stl"));
     for stl in ["l.stl", "new.stl"] {
         folder.shell(&format!("trap '' XFSZ; ulimit -f 1; \"$1\" stl v.sheet {stl}")).failed_with("there is no room");
@@ -158,7 +158,7 @@ fn facets_of_no_area_are_told() {
     let folder = Folder::new("stl-flat");
     let exported = |name: &str, samples: &[i16]| {
         folder.put("v.vol", &volume([3, 3, 3], samples));
-        folder.run("build v.vol v.sheet").well("14 24 8\n");
+        folder.run("build v.vol v.sheet --start lowest").well("14 24 8\n");
         folder.run(&format!("stl v.sheet {name}.stl"))
     };
     let mut speck = [1; 27];

@@ -25,13 +25,13 @@ fn listing() {
 fn build_check_show() {
     let folder = Folder::new("build");
     folder.put("l.raw", &listed());
-    folder.run("build l.raw l.sheet").well("3 1 1\n");
+    folder.run("build l.raw l.sheet --start lowest").well("3 1 1\n");
     let file = folder.get("l.sheet");
     assert_eq!(file.len(), 84);
-    folder.run("check l.raw l.sheet").well("accepted\n");
+    folder.run("check l.raw l.sheet --start lowest").well("accepted\n");
     folder.run("check l.raw l.sheet --start=0,0,0").well("accepted\n");
     folder.run("show l.sheet").well(&format!("3 1 2 2 2\n{LINES}"));
-    folder.shell("cat l.sheet | \"$1\" check l.raw /dev/stdin").well("accepted\n");
+    folder.shell("cat l.sheet | \"$1\" check l.raw /dev/stdin --start lowest").well("accepted\n");
     assert_eq!(folder.names(), ["l.raw", "l.sheet"]);
 
     folder.put("p.raw", &pair());
@@ -41,8 +41,8 @@ fn build_check_show() {
     folder.run("build p.raw b.sheet --start 4,0,0").refused("refused 4");
     folder.run("build p.raw b.sheet --start 99999999999999999999,0,0").refused("refused 4");
     folder.run("check p.raw b.sheet --start 3,0,0").well("accepted\n");
-    folder.run("check p.raw b.sheet").refused("refused 17 0");
-    folder.run("check l.raw b.sheet").refused("refused 16 0");
+    folder.run("check p.raw b.sheet --start lowest").refused("refused 17 0");
+    folder.run("check l.raw b.sheet --start lowest").refused("refused 16 0");
 }
 
 #[test]
@@ -62,15 +62,15 @@ fn refusals() {
         [("short", 1), ("few", 2), ("odd", 2), ("more", 2), ("axis", 1), ("flat", 5), ("long", 2), ("full", 5)];
     for (name, number) in numbers {
         folder.run(&format!("list {name}.raw")).refused(&format!("refused {number}"));
-        folder.run(&format!("build {name}.raw old.sheet")).refused(&format!("refused {number}"));
-        folder.run(&format!("check {name}.raw old.sheet")).refused(&format!("refused {number} 0"));
+        folder.run(&format!("build {name}.raw old.sheet --start lowest")).refused(&format!("refused {number}"));
+        folder.run(&format!("check {name}.raw old.sheet --start lowest")).refused(&format!("refused {number} 0"));
     }
     assert_eq!(folder.get("old.sheet"), b"old");
     folder.run("show old.sheet").refused("refused 11 0");
     folder.put("zero.sheet", &[0; 24]);
     folder.run("show zero.sheet").refused("refused 12 0");
     folder.put("l.raw", &good);
-    folder.run("build l.raw l.sheet").well("3 1 1\n");
+    folder.run("build l.raw l.sheet --start lowest").well("3 1 1\n");
     let file = folder.get("l.sheet");
     let mut stray = file.clone();
     stray[48] = 3;
@@ -79,7 +79,7 @@ fn refusals() {
     let mut moved = file.clone();
     moved[16 + 8] ^= 1;
     folder.put("moved.sheet", &moved);
-    let run = folder.run("check l.raw moved.sheet");
+    let run = folder.run("check l.raw moved.sheet --start lowest");
     run.refused("refused 17 1");
     assert!(run.errors.contains("vertex record 1"), "{run:?}");
 }
@@ -118,21 +118,35 @@ fn files_that_cannot_be_read_or_written() {
     let folder = Folder::new("files");
     folder.put("l.raw", &listed());
     fs::create_dir(folder.0.join("folder")).expect("a folder");
-    for line in
-        ["list missing", "list folder", "show missing", "show folder", "check l.raw missing", "check folder l.raw"]
-    {
+    for line in [
+        "list missing",
+        "list folder",
+        "show missing",
+        "show folder",
+        "check l.raw missing --start lowest",
+        "check folder l.raw --start lowest",
+    ] {
         folder.run(line).failed();
     }
-    for line in ["audit missing", "audit folder", "build missing new", "build l.raw folder", "build l.raw folder/"] {
+    for line in [
+        "audit missing",
+        "audit folder",
+        "build missing new --start lowest",
+        "build l.raw folder --start lowest",
+        "build l.raw folder/ --start lowest",
+    ] {
         folder.run(line).failed();
     }
-    for line in
-        ["build l.raw missing/new", "build l.raw l.raw/new", "build l.raw l.raw", "build l.raw ./folder/../l.raw"]
-    {
+    for line in [
+        "build l.raw missing/new --start lowest",
+        "build l.raw l.raw/new --start lowest",
+        "build l.raw l.raw --start lowest",
+        "build l.raw ./folder/../l.raw --start lowest",
+    ] {
         folder.run(line).failed();
     }
-    folder.run_words(&["build", "l.raw", ""]).failed();
-    folder.run_words(&["build", "l.raw", &"n".repeat(300)]).failed();
+    folder.run_words(&["build", "l.raw", "", "--start", "lowest"]).failed();
+    folder.run_words(&["build", "l.raw", &"n".repeat(300), "--start", "lowest"]).failed();
     assert_eq!(folder.get("l.raw"), listed());
     assert_eq!(folder.names(), ["folder", "l.raw"]);
     assert_eq!(fs::read_dir(folder.0.join("folder")).map(Iterator::count).ok(), Some(0));
@@ -145,7 +159,7 @@ fn a_device_is_never_replaced() {
     folder.put("l.raw", &listed());
     // a link to a device, so that even a mistake would only replace the link
     std::os::unix::fs::symlink("/dev/null", folder.0.join("null")).expect("a link");
-    folder.run("build l.raw null").failed();
+    folder.run("build l.raw null --start lowest").failed();
     assert!(fs::symlink_metadata(folder.0.join("null")).is_ok_and(|about| about.is_symlink()));
 }
 
@@ -156,13 +170,13 @@ fn a_link_is_followed_and_names_may_be_long() {
     fs::create_dir(folder.0.join("archive")).expect("a folder");
     folder.put("archive/real.sheet", b"old");
     std::os::unix::fs::symlink("archive/real.sheet", folder.0.join("link")).expect("a link");
-    folder.run("build l.raw link").well("3 1 1\n");
+    folder.run("build l.raw link --start lowest").well("3 1 1\n");
     assert!(fs::symlink_metadata(folder.0.join("link")).is_ok_and(|about| about.is_symlink()));
     assert_eq!(folder.get("archive/real.sheet").len(), 84);
     let long = "n".repeat(255);
-    folder.run(&format!("build l.raw {long}")).well("3 1 1\n");
-    folder.run(&format!("check l.raw {long}")).well("accepted\n");
-    folder.run("build l.raw -- --odd").well("3 1 1\n");
+    folder.run(&format!("build l.raw {long} --start lowest")).well("3 1 1\n");
+    folder.run(&format!("check l.raw {long} --start lowest")).well("accepted\n");
+    folder.run("build --start lowest l.raw -- --odd").well("3 1 1\n");
     folder.run("show -- --odd").well(&format!("3 1 2 2 2\n{LINES}"));
 }
 
@@ -178,8 +192,8 @@ fn a_full_disk_leaves_the_old_file() {
     folder.put("v.raw", &larger());
     folder.put("old.sheet", b"old");
     // a limit on the length of files, with the signal ignored: the write fails as on a full disk
-    folder.shell("trap '' XFSZ; ulimit -f 1; \"$1\" build v.raw old.sheet").failed();
-    folder.shell("trap '' XFSZ; ulimit -f 1; \"$1\" build v.raw new.sheet").failed();
+    folder.shell("trap '' XFSZ; ulimit -f 1; \"$1\" build v.raw old.sheet --start lowest").failed();
+    folder.shell("trap '' XFSZ; ulimit -f 1; \"$1\" build v.raw new.sheet --start lowest").failed();
     assert_eq!(folder.get("old.sheet"), b"old");
     assert_eq!(folder.names(), ["old.sheet", "v.raw"]);
 }
@@ -191,7 +205,8 @@ fn a_crash_leaves_the_old_file_or_none() {
     folder.put("old.sheet", b"old");
     // the same limit with its signal, SIGXFSZ: the tool dies in the middle of its write
     for sheet in ["old.sheet", "new.sheet"] {
-        let run = folder.shell(&format!("ulimit -c 0; ulimit -f 1; \"$1\" build v.raw {sheet}; echo $?"));
+        let run =
+            folder.shell(&format!("ulimit -c 0; ulimit -f 1; \"$1\" build v.raw {sheet} --start lowest; echo $?"));
         assert_eq!(run.output, "153\n", "{run:?}");
     }
     assert_eq!(folder.get("old.sheet"), b"old");
@@ -213,7 +228,7 @@ fn files_of_any_length() {
     sparse("marked.sheet", 20_000_000_000, &trailer);
     sparse("longest.sheet", 80_000_024, &trailer);
     folder.run("show zeros.sheet").refused("refused 12 0");
-    folder.run("check l.raw marked.sheet").refused("refused 14 0");
+    folder.run("check l.raw marked.sheet --start lowest").refused("refused 14 0");
     folder.run("show longest.sheet").refused("refused 14 0");
     folder.run("list zeros.sheet").refused("refused 1");
     folder.run("audit zeros.sheet").failed();
@@ -244,10 +259,10 @@ fn a_full_lattice() {
     let samples: Vec<i16> = (0..64 * 64 * 64).map(|n: i64| (n * n * 7919 % 65_537 - 32_768) as i16).collect();
     let file = volume([64, 64, 64], &samples);
     folder.put("v.raw", &file);
-    let expected = second::listing(&file, None);
+    let expected = second::listing(&file, second::Start::Lowest);
     let first = expected.lines().next().unwrap_or_default();
-    folder.run("build v.raw v.sheet").well(&format!("{first}\n"));
-    folder.run("check v.raw v.sheet").well("accepted\n");
+    folder.run("build v.raw v.sheet --start lowest").well(&format!("{first}\n"));
+    folder.run("check v.raw v.sheet --start lowest").well("accepted\n");
     let list = folder.run("list v.raw");
     assert!(list.output == expected && list.status == Some(0));
     let show = folder.run("show v.sheet");

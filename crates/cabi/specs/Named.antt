@@ -1,16 +1,17 @@
--- A start as a flag and a place, a level as a flag and two greys. Assumes nothing.
-use mathlib.Core.Bool.{Bool, true, false}
+-- A start as a number and a place, a level as a flag and two greys. Assumes nothing.
+use mathlib.Core.Bool.{Bool, true, false, cond}
+use Prim.Native.Nat.{ℕ}
+use lib.Dec.{eqb}
 use lib.Ieee.{Float}
 use Rattle.paper.specs.declared.Place.{Place}
 use Rattle.paper.specs.declared.Start.{Start}
-use Rattle.paper.specs.declared.Start.the-variants.{Unnamed, Cube}
+use Rattle.paper.specs.declared.Start.the-variants.{Unnamed, Lowest, Cube}
 use Rattle.floats.specs.declared.Level.{Level}
 use Rattle.floats.specs.declared.Level.the-variants.{Fixed, Halfway}
 
--- the caller names no start, or a cube
-unfoldable pub startIf : Bool → Place → Start
-startIf true p = Cube p
-startIf false p = Unnamed
+-- 0: the caller names no start; 1: the lowest crossed cube; any other number: the cube at the place
+unfoldable pub startIf : ℕ → Place → Start
+startIf from p = cond (eqb from 0) Unnamed (cond (eqb from 1) Lowest (Cube p))
 
 -- a fixed grey, the other then not being looked at; or halfway between an air grey and a material grey
 unfoldable pub levelIf : Bool → Float → Float → Level

@@ -1,5 +1,5 @@
-// The library for programs in other languages: the entry points under plain names, a start as a flag and a place, a level as a flag and
-// two greys.
+// The library for programs in other languages: the entry points under plain names, a start as a number and a place, a level as a flag
+// and two greys.
 use floats::Level;
 use paper::Built;
 use paper::Got;
@@ -19,20 +19,23 @@ ghost use Rattle.stl.specs.Stl.{StlWrites, StlReads};
 ghost use Rattle.floats.specs.Convert.{Converts};
 ghost use Rattle.cabi.specs.Named.{startIf, levelIf};
 
-// The start that a flag and a place name.
-fn start_if(named: bool, start: Place) -> Start
-    ensures { λ r. ⌜ r ≡ startIf named start ⌝ }
+// The start that a number and a place name: 0 none, 1 the lowest crossed cube, any other number the cube at the place.
+fn start_if(from: u32, start: Place) -> Start
+    ensures { λ r. ⌜ r ≡ startIf from start ⌝ }
 {
-    if named {
-        return Start::Cube(start);
+    if from == 0 {
+        return Start::Unnamed;
     }
-    Start::Unnamed
+    if from == 1 {
+        return Start::Lowest;
+    }
+    Start::Cube(start)
 }
 
 #[no_mangle]
 pub extern "C" fn malxuqeed_build(
     sizes: Sizes,
-    named: bool,
+    from: u32,
     start: Place,
     samples: &[i16],
     vertices: &mut [i32],
@@ -44,9 +47,9 @@ pub extern "C" fn malxuqeed_build(
     ensures { λ r.
         let before = lent (now (vertices .entry)) (now (triangles .entry)) (work (now (words .entry)) (now (waiting .entry)) (now (slots .entry))) in
         let after = lent (now (vertices .exit)) (now (triangles .exit)) (work (now (words .exit)) (now (waiting .exit)) (now (slots .exit))) in
-        ⌜ Builds (lattice sizes (now (samples .entry))) (startIf named start) before r after ⌝ }
+        ⌜ Builds (lattice sizes (now (samples .entry))) (startIf from start) before r after ⌝ }
 {
-    let at = start_if(named, start);
+    let at = start_if(from, start);
     sheet::build(
         samples,
         sizes,
@@ -83,7 +86,7 @@ pub extern "C" fn malxuqeed_read(bytes: &[u8], vertices: &mut [i32], triangles: 
 #[no_mangle]
 pub extern "C" fn malxuqeed_check(
     sizes: Sizes,
-    named: bool,
+    from: u32,
     start: Place,
     samples: &[i16],
     bytes: &[u8],
@@ -94,9 +97,9 @@ pub extern "C" fn malxuqeed_check(
     ensures { λ r.
         let before = work (now (words .entry)) (now (waiting .entry)) (now (slots .entry)) in
         let after = work (now (words .exit)) (now (waiting .exit)) (now (slots .exit)) in
-        ⌜ Checks (lattice sizes (now (samples .entry))) (startIf named start) (now (bytes .entry)) before r after ⌝ }
+        ⌜ Checks (lattice sizes (now (samples .entry))) (startIf from start) (now (bytes .entry)) before r after ⌝ }
 {
-    let at = start_if(named, start);
+    let at = start_if(from, start);
     checker::check(samples, sizes, at, bytes, words, waiting, slots)
 }
 

@@ -11,7 +11,7 @@ use Rattle.lists.specs.Lists.{range}
 use Rattle.lists.specs.Bytes.{field}
 use Rattle.paper.specs.declared.Sizes.{Sizes}
 use Rattle.paper.specs.declared.Built.{Built}
-use Rattle.paper.specs.declared.Start.the-variants.{Unnamed}
+use Rattle.paper.specs.declared.Start.the-variants.{Lowest}
 use Rattle.paper.specs.Lattice.{Lattice, lattice, samples}
 use Rattle.paper.specs.Sheet.{recordLength}
 use Rattle.paper.specs.Build.{uncounted, built, lentAfter}
@@ -32,10 +32,10 @@ samples-are bs n l e h =
 
 -- an answer is that of the listing's own room
 pub own-built : (L : Lattice) (vs : List ℤ) (ts : List ℕ) → length vs ≡ vertexNumbers → length ts ≡ triangleNumbers
-    → built L Unnamed (listingRoom vs ts) ≡ built L Unnamed ownRoom
+    → built L Lowest (listingRoom vs ts) ≡ built L Lowest ownRoom
 unfolding listingRoom ownRoom
 own-built L vs ts ev et =
-    built-same L Unnamed (listingRoom vs ts) ownRoom
+    built-same L Lowest (listingRoom vs ts) ownRoom
     (ap (λ (n : ℕ). n / recordLength) (ev ∙ sym (length-replicate {A = ℤ} vertexNumbers (pos 0))))
     (ap (λ (n : ℕ). n / 3) (et ∙ sym (length-replicate {A = ℕ} triangleNumbers 0))) refl .0
 
@@ -46,15 +46,16 @@ list-refused bs vs ts n e h =
     record { answer = rw q (ap uncounted e); vertices = rw q; triangles = rw q }
 
 pub list-done : (bs : List ℕ) (vs : List ℤ) (ts : List ℕ) → length vs ≡ vertexNumbers → length ts ≡ triangleNumbers → listingNumber bs ≡ 0
-    → (z : Sizes) → z ≡ listedSizes bs → (xs : List ℤ) → xs ≡ listedSamples bs → (r : Built) → r ≡ built (lattice z xs) Unnamed (listingRoom vs ts)
-    → (vs′ : List ℤ) → vs′ ≡ lentAfter (lattice z xs) Unnamed (listingRoom vs ts) .vertices
-    → (ts′ : List ℕ) → ts′ ≡ lentAfter (lattice z xs) Unnamed (listingRoom vs ts) .triangles
+    → (z : Sizes) → z ≡ listedSizes bs → (xs : List ℤ) → xs ≡ listedSamples bs
+    → (r : Built) → r ≡ built (lattice z xs) Lowest (listingRoom vs ts)
+    → (vs′ : List ℤ) → vs′ ≡ lentAfter (lattice z xs) Lowest (listingRoom vs ts) .vertices
+    → (ts′ : List ℕ) → ts′ ≡ lentAfter (lattice z xs) Lowest (listingRoom vs ts) .triangles
     → Lists bs vs ts r vs′ ts′
 unfolding listed listedAfter listedLattice
 list-done bs vs ts hv ht e z ez xs ex r er vs′ ev ts′ et =
     let l : lattice z xs ≡ listedLattice bs = λ i. lattice (ez i) (ex i) in
     record {
-      answer = rw e (er ∙ (ap (λ (l : _). built l Unnamed (listingRoom vs ts)) l ∙ own-built (listedLattice bs) vs ts hv ht));
-      vertices = rw e (ev ∙ ap (λ (l : _). lentAfter l Unnamed (listingRoom vs ts) .vertices) l);
-      triangles = rw e (et ∙ ap (λ (l : _). lentAfter l Unnamed (listingRoom vs ts) .triangles) l);
+      answer = rw e (er ∙ (ap (λ (l : _). built l Lowest (listingRoom vs ts)) l ∙ own-built (listedLattice bs) vs ts hv ht));
+      vertices = rw e (ev ∙ ap (λ (l : _). lentAfter l Lowest (listingRoom vs ts) .vertices) l);
+      triangles = rw e (et ∙ ap (λ (l : _). lentAfter l Lowest (listingRoom vs ts) .triangles) l);
     }

@@ -10,7 +10,7 @@ use lib.ListN.{length, drop, length-append, length-drop, length-replicate}
 use borrow.Author.Tests.{eqb-true}
 use Rattle.lists.specs.Lists.{over}
 use Rattle.paper.specs.declared.Start.{Start}
-use Rattle.paper.specs.declared.Start.the-variants.{Unnamed}
+use Rattle.paper.specs.declared.Start.the-variants.{Lowest}
 use Rattle.paper.specs.declared.Built.{Built}
 use Rattle.paper.specs.Lattice.{Lattice}
 use Rattle.paper.specs.Sheet.{Sheet, sheetOf, vertexWords, triangleWords}
@@ -35,10 +35,10 @@ unfolding listed ownRoom listingRoom
 listing-fits bs = go (eqb (listingNumber bs) 0) refl
   where
     go : (b : Bool) → eqb (listingNumber bs) 0 ≡ b
-        → cond b (built (listedLattice bs) Unnamed ownRoom) (uncounted (listingNumber bs)) .number ≡ 0
-        → Fits (cond b (built (listedLattice bs) Unnamed ownRoom) (uncounted (listingNumber bs))) vertexNumbers triangleNumbers
+        → cond b (built (listedLattice bs) Lowest ownRoom) (uncounted (listingNumber bs)) .number ≡ 0
+        → Fits (cond b (built (listedLattice bs) Lowest ownRoom) (uncounted (listingNumber bs))) vertexNumbers triangleNumbers
     go true q e =
-        let f = build-fits (listedLattice bs) Unnamed ownRoom e in
+        let f = build-fits (listedLattice bs) Lowest ownRoom e in
         record {
           vertices = omega (arith, f .vertices, length-replicate {A = ℤ} vertexNumbers (pos 0));
           triangles = omega (arith, f .triangles, length-replicate {A = ℕ} triangleNumbers 0);
@@ -74,22 +74,22 @@ module _ (L : Lattice) (s : Start) (l : Lent) where
       output-length (buildNumber L s l) (triangleWords S) (l .triangles) (λ e. omega (arith, fits-in e .1, triangle-words-length S))
 
 module _ (bs : List ℕ) (vs : List ℤ) (ts : List ℕ) where
-  by-number : (f : Lent → ℕ) → f (lentAfter (listedLattice bs) Unnamed (listingRoom vs ts)) ≡ f (listingRoom vs ts)
+  by-number : (f : Lent → ℕ) → f (lentAfter (listedLattice bs) Lowest (listingRoom vs ts)) ≡ f (listingRoom vs ts)
       → f (listedAfter bs vs ts) ≡ f (listingRoom vs ts)
   unfolding listedAfter
   by-number f h = go (eqb (listingNumber bs) 0)
     where
-      go : (b : Bool) → f (cond b (lentAfter (listedLattice bs) Unnamed (listingRoom vs ts)) (listingRoom vs ts)) ≡ f (listingRoom vs ts)
+      go : (b : Bool) → f (cond b (lentAfter (listedLattice bs) Lowest (listingRoom vs ts)) (listingRoom vs ts)) ≡ f (listingRoom vs ts)
       go true = h
       go false = refl
 
   pub listed-vertices : length (listedAfter bs vs ts .vertices) ≡ length vs
   unfolding listingRoom
-  listed-vertices = by-number (λ l. length (l .vertices)) (left-vertices (listedLattice bs) Unnamed (listingRoom vs ts))
+  listed-vertices = by-number (λ l. length (l .vertices)) (left-vertices (listedLattice bs) Lowest (listingRoom vs ts))
 
   pub listed-triangles : length (listedAfter bs vs ts .triangles) ≡ length ts
   unfolding listingRoom
-  listed-triangles = by-number (λ l. length (l .triangles)) (left-triangles (listedLattice bs) Unnamed (listingRoom vs ts))
+  listed-triangles = by-number (λ l. length (l .triangles)) (left-triangles (listedLattice bs) Lowest (listingRoom vs ts))
 
 -- any two outcomes that the contract of a listing allows agree
 pub lists-agree : (bs : List ℕ) (vs : List ℤ) (ts : List ℕ) (r₁ r₂ : Built) (vs₁ vs₂ : List ℤ) (ts₁ ts₂ : List ℕ)

@@ -10,7 +10,7 @@ use Rattle.lists.specs.Lists.{range}
 use Rattle.lists.specs.Bytes.{signed, field}
 use Rattle.paper.specs.declared.Sizes.{Sizes}
 use Rattle.paper.specs.declared.Built.{Built}
-use Rattle.paper.specs.declared.Start.the-variants.{Unnamed}
+use Rattle.paper.specs.declared.Start.the-variants.{Lowest}
 use Rattle.paper.specs.Lattice.{Lattice, lattice, axes, samples}
 use Rattle.paper.specs.Tests.{Test, test, judge}
 use Rattle.paper.specs.Sheet.{recordLength}
@@ -62,16 +62,17 @@ listingRoom vs ts = lent vs ts (work (replicate 343 0) (replicate 343 0) (replic
 unfoldable pub ownRoom : Lent
 ownRoom = listingRoom (replicate vertexNumbers (pos 0)) (replicate triangleNumbers 0)
 
--- "and names no start": the answer, the first test that fails, or what a build in that room answers
+-- "and names no start"; "The listing program .. now ask for the old one by name" (02 (iv)), the lowest crossed cube: the answer, the first
+-- test that fails, or what a build in that room answers
 unfoldable pub listed : List ℕ → Built
 listed bs =
     let n = listingNumber bs in
-    cond (eqb n 0) (built (listedLattice bs) Unnamed ownRoom) (uncounted n)
+    cond (eqb n 0) (built (listedLattice bs) Lowest ownRoom) (uncounted n)
 
 -- what the room for the sheet then holds
 unfoldable pub listedAfter : List ℕ → List ℤ → List ℕ → Lent
 listedAfter bs vs ts =
-    cond (eqb (listingNumber bs) 0) (lentAfter (listedLattice bs) Unnamed (listingRoom vs ts)) (listingRoom vs ts)
+    cond (eqb (listingNumber bs) 0) (lentAfter (listedLattice bs) Lowest (listingRoom vs ts)) (listingRoom vs ts)
 
 -- the contract of a listing: its answer, and the sheet that it leaves
 pub record Lists (bs : List ℕ) (vs : List ℤ) (ts : List ℕ) (r : Built) (vs′ : List ℤ) (ts′ : List ℕ) : Type 0 where

@@ -11,7 +11,7 @@ ghost use Rattle.lists.specs.Lists.{range};
 ghost use Rattle.lists.specs.Bytes.{field};
 ghost use Rattle.paper.specs.Lattice.{lattice};
 ghost use Rattle.paper.specs.Build.{built, lentAfter};
-ghost use Rattle.paper.specs.declared.Start.the-variants.{Unnamed};
+ghost use Rattle.paper.specs.declared.Start.the-variants.{Lowest};
 ghost use Rattle.lister.specs.Listing.{signed16, listedSizes, listable, listingNumber, listingRoom, Lists};
 
 // The signed number whose 16 bits are b.
@@ -91,8 +91,8 @@ fn mesh(samples: &[i16], sizes: Sizes, vertices: &mut [i32], triangles: &mut [u3
     ensures { λ r.
         let L = lattice sizes (now (samples .entry)) in
         let room = listingRoom (now (vertices .entry)) (now (triangles .entry)) in
-        let left = lentAfter L Unnamed room in
-        ⌜ (r ≡ built L Unnamed room) × (now (vertices .exit) ≡ left .vertices) × (now (triangles .exit) ≡ left .triangles) ⌝ }
+        let left = lentAfter L Lowest room in
+        ⌜ (r ≡ built L Lowest room) × (now (vertices .exit) ≡ left .vertices) × (now (triangles .exit) ≡ left .triangles) ⌝ }
 {
     let mut words = [0u16; 343];
     let mut waiting = [0u32; 343];
@@ -100,7 +100,7 @@ fn mesh(samples: &[i16], sizes: Sizes, vertices: &mut [i32], triangles: &mut [u3
     sheet::build(
         samples,
         sizes,
-        Start::Unnamed,
+        Start::Lowest,
         vertices,
         triangles,
         &mut words,

@@ -11,12 +11,12 @@ use Rattle.lists.specs.Bytes.{signed, field}
 use Rattle.lists.specs.Reach.{grow, rounds, reached}
 use Rattle.paper.specs.declared.Sizes.{Sizes}
 use Rattle.paper.specs.declared.Start.{Start}
-use Rattle.paper.specs.declared.Start.the-variants.{Unnamed, Cube}
+use Rattle.paper.specs.declared.Start.the-variants.{Lowest, Cube}
 use Rattle.paper.specs.declared.Built.{Built}
 use Rattle.paper.specs.declared.Verdict.{Verdict}
 use Rattle.paper.specs.declared.Wrote.{Wrote}
 use Rattle.paper.specs.declared.Got.{Got}
-use Rattle.paper.specs.Lattice.{Lattice, lattice, place, axis, axes, samples, air, sampleNo, sampleAt, valueAt, airAt, cubes, cubeNo, cubeAt, corner, mixed, mixedAt, fill, isFill, fillAt, inLattice, free, visitable, crossed, faces, stepOver, steps, visited, lowest}
+use Rattle.paper.specs.Lattice.{Lattice, lattice, place, axis, axes, samples, air, sampleNo, sampleAt, valueAt, airAt, cubes, cubeNo, cubeAt, corner, mixed, mixedAt, fill, isFill, fillAt, inLattice, free, visitable, crossed, faces, stepOver, steps, visited, lowest, inner, inside, mayStart}
 use Rattle.paper.specs.Tables.{tets, rows, tetEdges, kinds, low, joins, kindOf}
 use Rattle.paper.specs.Sheet.{Sheet, edgeNo, anchorOf, endsOf, firstEnd, secondEnd, split, cubeEdges, vertexEdges, crossing, coordinate, recordAt, vertexRecord, weight, rowOf, rowAt, tetEdge, triEdges, trianglesAt, cubeTriangles, numbered, sheetBy, sheetOf, vertexWords, triangleWords}
 use Rattle.paper.specs.Room.{Work, work, Lengths, lengths, roomy, roomTests, frontAfter, outputAfter}
@@ -27,6 +27,8 @@ use Rattle.paper.specs.Check.{sameSizes, sameTriangle, turned, recordOf,
 pub data Case : Type 0 where
   -- the number and the counts of a build, with room for so many vertices and triangles
   builds : ℕ → ℕ → Lattice → Start → Case
+  -- the number of the start cube
+  startsAt : Lattice → Start → Case
   -- the numbers of the vertices and of the triangles
   lists : Lattice → Start → Case
   -- the file's length, and its trailer's numbers
@@ -78,11 +80,11 @@ abbrev pub at : ℕ → ℕ → ℕ → Start
 at x y z = Cube (place x y z)
 
 abbrev room : ℕ → ℕ → Lent
-room nv nt = lent (replicate (4 * nv) (pos 0)) (replicate (3 * nt) 0) (work (replicate 30 0) (replicate 30 0) (replicate 200 0))
+room nv nt = lent (replicate (4 * nv) (pos 0)) (replicate (3 * nt) 0) (work (replicate 45 0) (replicate 45 0) (replicate 672 0))
 
 -- the lengths of work room that is enough for the lattices below
 abbrev enough : Lengths
-enough = record { words = 30; waiting = 30; slots = 300 }
+enough = record { words = 45; waiting = 45; slots = 672 }
 
 abbrev answer : Built → List ℕ
 answer b = b .number ∷ b .vertices ∷ b .triangles ∷ b .cubes ∷ []
@@ -106,7 +108,7 @@ abbrev pub works : Work → List ℕ
 works w = w .words ++ w .waiting ++ w .slots
 
 abbrev checkLeft : Lattice → List ℕ → Work → List ℕ
-checkLeft L bs w = checked L Unnamed bs (lengths w) .number ∷ works (checkedAfter L Unnamed bs w)
+checkLeft L bs w = checked L Lowest bs (lengths w) .number ∷ works (checkedAfter L Lowest bs w)
 
 abbrev pub numbers : Lent → List ℕ
 numbers l = map natAbs (l .vertices) ++ l .triangles ++ works (l .work)
@@ -129,13 +131,14 @@ fourth : ℕ → ℕ
 fourth n = n / 4
 
 unfoldable pub outcome : Case → List ℕ
-unfolding third fourth grow rounds reached axis axes samples air sampleNo sampleAt valueAt airAt cubes cubeNo cubeAt corner mixed mixedAt isFill fillAt inLattice free visitable crossed faces stepOver steps visited lowest tets rows tetEdges kinds low joins kindOf edgeNo anchorOf endsOf firstEnd secondEnd split cubeEdges vertexEdges crossing coordinate recordAt vertexRecord rowOf rowAt tetEdge triEdges trianglesAt cubeTriangles numbered sheetBy sheetOf vertexWords triangleWords xor roomy shapeTests startTests sampleTests roomTests buildNumber built frontAfter outputAfter lentAfter field bits32 signed fileLength trailerBytes fileBytes badTriangle firstBad limits writeVerdict wrote trailer fileV fileT fileSizes fileVertices fileTriangles laidOut fileTests readVerdict got sameSizes sameTriangle turned recordOf edgeOf badRecord cornerOf triangleOf badNaming complete sheetTests checked checkedAfter
+unfolding third fourth grow rounds reached axis axes samples air sampleNo sampleAt valueAt airAt cubes cubeNo cubeAt corner mixed mixedAt isFill fillAt inLattice free visitable crossed faces stepOver steps visited lowest inner inside mayStart tets rows tetEdges kinds low joins kindOf edgeNo anchorOf endsOf firstEnd secondEnd split cubeEdges vertexEdges crossing coordinate recordAt vertexRecord rowOf rowAt tetEdge triEdges trianglesAt cubeTriangles numbered sheetBy sheetOf vertexWords triangleWords xor roomy shapeTests startTests sampleTests roomTests buildNumber built frontAfter outputAfter lentAfter field bits32 signed fileLength trailerBytes fileBytes badTriangle firstBad limits writeVerdict wrote trailer fileV fileT fileSizes fileVertices fileTriangles laidOut fileTests readVerdict got sameSizes sameTriangle turned recordOf edgeOf badRecord cornerOf triangleOf badNaming complete sheetTests checked checkedAfter
 outcome (builds nv nt L s) = answer (built L s (room nv nt))
+outcome (startsAt L s) = startOf L s ∷ []
 outcome (lists L s) = listed (sheetOf L (startOf L s))
-outcome (files L) = let S = sheetOf L (startOf L Unnamed) in filed (file L S (length (S .triangles)) (triangleWords S))
-outcome (checks L ts) = says (checked L Unnamed (file L (sheetOf L (startOf L Unnamed)) (third (length ts)) ts) enough)
-outcome (checksFile L z vs ts) = says (checked L Unnamed (fileBytes (contentOf z (fourth (length vs)) (third (length ts)) vs ts)) enough)
-outcome (checksBytes L bs) = says (checked L Unnamed bs enough)
+outcome (files L) = let S = sheetOf L (startOf L Lowest) in filed (file L S (length (S .triangles)) (triangleWords S))
+outcome (checks L ts) = says (checked L Lowest (file L (sheetOf L (startOf L Lowest)) (third (length ts)) ts) enough)
+outcome (checksFile L z vs ts) = says (checked L Lowest (fileBytes (contentOf z (fourth (length vs)) (third (length ts)) vs ts)) enough)
+outcome (checksBytes L bs) = says (checked L Lowest bs enough)
 outcome (checksFrom L s t) =
     let S = sheetOf L (startOf L t) in
     says (checked L s (file L S (length (S .triangles)) (triangleWords S)) enough)
@@ -153,7 +156,7 @@ outcome (readsFile c nv nt) = read (got (fileBytes c) (replicate nv (pos 0)) (re
 outcome (readLeaves bs vs ts) = map folded (verticesAfter bs vs ts) ++ trianglesAfter bs vs ts
 outcome (signs n) = folded (signed32 n) ∷ []
 outcome (rereads L) =
-    let S = sheetOf L (startOf L Unnamed) in
+    let S = sheetOf L (startOf L Lowest) in
     let bs = file L S (length (S .triangles)) (triangleWords S) in
     map natAbs (fileVertices bs) ++ fileTriangles bs
 
@@ -203,6 +206,14 @@ split-air = lat 2 2 2 (a ∷ a ∷ o ∷ a ∷ a ∷ o ∷ o ∷ a ∷ [])
 -- only (2, 0, 0), (0, 3, 1) and (2, 3, 2) air, in three pieces; (1, 3, 1) is −3
 abbrev pub uneven : Lattice
 uneven = lat 3 4 3 (o ∷ o ∷ a ∷ replicate 18 o ++ a ∷ negsuc 2 ∷ replicate 12 o ++ a ∷ [])
+
+-- 4×4×4, only sample i air
+abbrev pub one-air : ℕ → Lattice
+one-air i = lat 4 4 4 (set (replicate 64 o) i a)
+
+-- 6×4×4, only (0, 0, 0) and (4, 2, 2) air
+abbrev pub tray : Lattice
+tray = lat 6 4 4 (a ∷ replicate 63 o ++ a ∷ replicate 31 o)
 
 -- the fill
 abbrev pub f : ℤ

@@ -15,6 +15,7 @@ pub mod Finding
 pub mod Steps
 pub mod Judged
 pub mod Tested
+pub mod Starts
 pub mod Passing
 pub mod Fill
 pub mod Parted

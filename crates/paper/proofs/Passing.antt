@@ -5,17 +5,15 @@ use mathlib.Core.Bool.{Bool, true, false, cond}
 use mathlib.Core.List.{List, _++_}
 use Prim.Native.Nat.{ℕ, _≤_, _<_}
 use native.Mathlib.Omega.{arith}
-use lib.Dec.{T, ltb→lt}
+use lib.Dec.{T}
 use lib.ListN.{length}
 use borrow.Author.Tests.{leb-true, le-leb}
-use Rattle.lists.specs.Lists.{range, first, cleared}
+use Rattle.lists.specs.Lists.{cleared}
 use Rattle.lists.proofs.Member.{eq→T}
-use Rattle.lists.proofs.Runs.{any-first}
-use Rattle.lists.proofs.Firsts.{first-holds}
 use Rattle.paper.specs.declared.Start.{Start}
-use Rattle.paper.specs.declared.Start.the-variants.{Unnamed, Cube}
+use Rattle.paper.specs.declared.Start.the-variants.{Unnamed, Lowest, Cube}
 use Rattle.paper.specs.declared.Sizes.{Sizes}
-use Rattle.paper.specs.Lattice.{Lattice, cubes, crossed, lowest, mayStart}
+use Rattle.paper.specs.Lattice.{Lattice, cubes, crossed, mayStart}
 use Rattle.paper.specs.Sheet.{Sheet, vertexRecord, sheetOf}
 use Rattle.paper.specs.Within.{Sized}
 use Rattle.paper.specs.Tests.{Test, verdict, judge}
@@ -26,6 +24,7 @@ use Rattle.paper.specs.Check.{sheetTests, checked}
 use Rattle.paper.proofs.Tested.{indices-passed, Compared, compared}
 use Rattle.paper.proofs.Numbers.{cube-lt}
 use Rattle.paper.proofs.Visits.{in-lattice}
+use Rattle.paper.proofs.Starts.{lowest-lt, lowest-passes, may-crossed}
 use Rattle.paper.proofs.Listing.{parts}
 use Rattle.paper.proofs.Judged.{Numbered, Passed, numbered-both, passed-both, judge-all, judge-among, judge-placeless, sized}
 
@@ -38,15 +37,14 @@ pub record Started (L : Lattice) (s : Start) : Type 0 where
   pub crosses : T (crossed L (startOf L s))
 
 starting : (L : Lattice) (s : Start) → named (L .size) s ≡ true → starts L s ≡ true → startOf L s < cubes (L .size)
-unfolding lowest
-starting L Unnamed t h =
-    let n = cubes (L .size) in
-    ltb→lt (first (mayStart L) n (range 0 n)) n (eq→T (sym (any-first (mayStart L) n) ∙ h))
+starting L Unnamed t h = lowest-lt (L .size) (mayStart L) h
+starting L Lowest t h = lowest-lt (L .size) (crossed L) h
 starting L (Cube p) t h = cube-lt (L .size) p (in-lattice (L .size) p (eq→T t))
 
 crossing : (L : Lattice) (s : Start) → named (L .size) s ≡ true → starts L s ≡ true → T (crossed L (startOf L s))
-unfolding lowest
-crossing L Unnamed t h = let n = cubes (L .size) in eq→T (first-holds (mayStart L) n 0 n (starting L Unnamed t h))
+crossing L Unnamed t h =
+    may-crossed L (startOf L Unnamed) (lowest-passes (L .size) (mayStart L) (lowest-lt (L .size) (mayStart L) h))
+crossing L Lowest t h = lowest-passes (L .size) (crossed L) (lowest-lt (L .size) (crossed L) h)
 crossing L (Cube p) t h = eq→T h
 
 pub shape-numbered : (L : Lattice) (m : Lengths) → Numbered (shapeTests L m)

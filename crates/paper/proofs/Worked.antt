@@ -3,15 +3,15 @@ use mathlib.Core.Path.{_≡_, refl}
 use mathlib.Core.List.{List, [], _∷_, map}
 use lib.IntN.{pos, negsuc}
 use lib.ListN.{replicate}
-use Rattle.paper.specs.declared.Start.the-variants.{Unnamed}
+use Rattle.paper.specs.declared.Start.the-variants.{Lowest}
 use Rattle.paper.proofs.Cases.{Case, builds, lists, files, crosses, Row, row-of, outcome, lat, at, first-air, rtn-air, middle-air, two-air}
 
 table : List Row
 table =
-    row-of (builds 100 100 first-air Unnamed) (0 ∷ 3 ∷ 1 ∷ 1 ∷ [])
-    ∷ row-of (lists first-air Unnamed) (0 ∷ 49152 ∷ 0 ∷ 0 ∷ 1 ∷ 0 ∷ 49152 ∷ 0 ∷ 2 ∷ 0 ∷ 0 ∷ 49152 ∷ 1 ∷ 2 ∷ 0 ∷ [])
+    row-of (builds 100 100 first-air Lowest) (0 ∷ 3 ∷ 1 ∷ 1 ∷ [])
+    ∷ row-of (lists first-air Lowest) (0 ∷ 49152 ∷ 0 ∷ 0 ∷ 1 ∷ 0 ∷ 49152 ∷ 0 ∷ 2 ∷ 0 ∷ 0 ∷ 49152 ∷ 1 ∷ 2 ∷ 0 ∷ [])
     ∷ row-of (files first-air) (84 ∷ 60 ∷ 3 ∷ 12 ∷ 1 ∷ 2 ∷ 2 ∷ 2 ∷ 21331 ∷ [])
-    ∷ row-of (builds 100 100 rtn-air Unnamed) (0 ∷ 6 ∷ 5 ∷ 1 ∷ [])
+    ∷ row-of (builds 100 100 rtn-air Lowest) (0 ∷ 6 ∷ 5 ∷ 1 ∷ [])
     ∷ row-of (builds 100 100 middle-air (at 0 0 0)) (0 ∷ 14 ∷ 24 ∷ 8 ∷ [])
     ∷ row-of (builds 100 100 middle-air (at 1 0 0)) (0 ∷ 14 ∷ 24 ∷ 8 ∷ [])
     ∷ row-of (builds 100 100 middle-air (at 0 1 0)) (0 ∷ 14 ∷ 24 ∷ 8 ∷ [])
@@ -20,13 +20,13 @@ table =
     ∷ row-of (builds 100 100 middle-air (at 1 0 1)) (0 ∷ 14 ∷ 24 ∷ 8 ∷ [])
     ∷ row-of (builds 100 100 middle-air (at 0 1 1)) (0 ∷ 14 ∷ 24 ∷ 8 ∷ [])
     ∷ row-of (builds 100 100 middle-air (at 1 1 1)) (0 ∷ 14 ∷ 24 ∷ 8 ∷ [])
-    ∷ row-of (builds 13 100 middle-air Unnamed) (6 ∷ 14 ∷ 24 ∷ 8 ∷ [])
-    ∷ row-of (builds 14 23 middle-air Unnamed) (7 ∷ 14 ∷ 24 ∷ 8 ∷ [])
+    ∷ row-of (builds 13 100 middle-air Lowest) (6 ∷ 14 ∷ 24 ∷ 8 ∷ [])
+    ∷ row-of (builds 14 23 middle-air Lowest) (7 ∷ 14 ∷ 24 ∷ 8 ∷ [])
     ∷ row-of (builds 100 100 two-air (at 0 0 0)) (0 ∷ 3 ∷ 1 ∷ 1 ∷ [])
     ∷ row-of (builds 100 100 two-air (at 3 0 0)) (0 ∷ 5 ∷ 3 ∷ 1 ∷ [])
     ∷ row-of (builds 100 100 two-air (at 1 0 0)) (5 ∷ 0 ∷ 0 ∷ 0 ∷ [])
     ∷ row-of (builds 100 100 two-air (at 4 0 0)) (4 ∷ 0 ∷ 0 ∷ 0 ∷ [])
-    ∷ row-of (builds 100 100 (lat 2 2 2 (replicate 8 (pos 0))) Unnamed) (5 ∷ 0 ∷ 0 ∷ 0 ∷ [])
+    ∷ row-of (builds 100 100 (lat 2 2 2 (replicate 8 (pos 0))) Lowest) (5 ∷ 0 ∷ 0 ∷ 0 ∷ [])
     ∷ row-of (crosses (pos 0) (pos 1)) (0 ∷ [])
     ∷ row-of (crosses (negsuc 0) (pos 32767)) (2 ∷ [])
     ∷ row-of (crosses (negsuc 1) (pos 1)) (43690 ∷ [])

@@ -1,17 +1,17 @@
--- Document 01, building: the answer, and what each lent slice then holds. Assumes nothing.
-use mathlib.Core.Path.{_≡_}
+-- Document 01, building, with document 02 (iv), the start: the answer, and what each lent slice then holds. Assumes nothing.
+use mathlib.Core.Path.{_≡_, refl}
 use mathlib.Core.Bool.{Bool, true, cond}
 use mathlib.Core.List.{List, [], _∷_, _++_}
 use Prim.Native.Nat.{ℕ}
-use lib.IntN.{ℤ}
+use lib.IntN.{ℤ, pos, negsuc}
 use lib.Dec.{eqb}
-use lib.ListN.{length}
+use lib.ListN.{length, replicate}
 use Rattle.lists.specs.Lists.{range, any, isIn}
 use Rattle.paper.specs.declared.Sizes.{Sizes}
 use Rattle.paper.specs.declared.Start.{Start}
-use Rattle.paper.specs.declared.Start.the-variants.{Unnamed, Cube}
+use Rattle.paper.specs.declared.Start.the-variants.{Unnamed, Lowest, Cube}
 use Rattle.paper.specs.declared.Built.{Built}
-use Rattle.paper.specs.Lattice.{Lattice, axes, samples, cubes, cubeNo, crossed, inLattice, lowest, mayStart}
+use Rattle.paper.specs.Lattice.{Lattice, lattice, axes, samples, air, sampleNo, valueAt, airAt, isFill, fillAt, cubes, cubeNo, cubeAt, corner, mixed, mixedAt, inLattice, free, visitable, crossed, lowest, inner, inside, mayStart}
 use Rattle.paper.specs.Sheet.{Sheet, sheetOf, vertexWords, triangleWords}
 use Rattle.paper.specs.Tests.{Test, test, judge}
 use Rattle.paper.specs.Room.{Work, Lengths, lengths, roomy, vertexRoom, triangleRoom, roomTests, workAfter, outputAfter}
@@ -36,16 +36,19 @@ shapeTests L n =
 -- 4: "the named start is not a cube of the lattice"
 abbrev pub named : Sizes → Start → Bool
 named z Unnamed = true
+named z Lowest = true
 named z (Cube p) = inLattice z p
 
--- the start cube
+-- the start cube; document 02 (iv): some callers "now ask for the old one by name", the lowest crossed cube
 abbrev pub startOf : Lattice → Start → ℕ
 startOf L Unnamed = lowest (L .size) (mayStart L)
+startOf L Lowest = lowest (L .size) (crossed L)
 startOf L (Cube p) = cubeNo (L .size) p
 
--- 5: "the start is not crossed, or none was named and no cube is crossed"
+-- 5: "the start is not crossed, or none was named and no cube is crossed"; "5 where no such cube exists" (02 (iv))
 abbrev pub starts : Lattice → Start → Bool
 starts L Unnamed = any (mayStart L) (range 0 (cubes (L .size)))
+starts L Lowest = any (crossed L) (range 0 (cubes (L .size)))
 starts L (Cube p) = crossed L (cubeNo (L .size) p)
 
 unfoldable pub startTests : Lattice → Start → List Test
@@ -93,3 +96,16 @@ lentAfter L s l = leftAt (buildNumber L s l) (sheetOf L (startOf L s)) (L .size)
 pub record Builds (L : Lattice) (s : Start) (before : Lent) (r : Built) (after : Lent) : Type 0 where
   pub answer : r ≡ built L s before
   pub left : after ≡ lentAfter L s before
+
+-- ── worked, of document 02 (iv) ──
+
+-- 4×4×4 and 3×3×3, only (1, 1, 1) air: the number of tests 4 and 5, and the start, where none is named and where the lowest is
+worked-start :
+    let o : ℤ = negsuc 0 in
+    let wide : Lattice = lattice (record { nx = 4; ny = 4; nz = 4 }) (replicate 21 o ++ pos 1 ∷ replicate 42 o) in
+    let tight : Lattice = lattice (record { nx = 3; ny = 3; nz = 3 }) (replicate 13 o ++ pos 1 ∷ replicate 13 o) in
+    let given : Lattice → Start → ℕ = λ L s. judge (startTests L s) .number in
+    (given wide Unnamed ∷ startOf wide Unnamed ∷ given wide Lowest ∷ startOf wide Lowest ∷ given tight Unnamed ∷ given tight Lowest ∷ [])
+    ≡ (0 ∷ 13 ∷ 0 ∷ 0 ∷ 5 ∷ 0 ∷ [])
+unfolding air sampleNo valueAt airAt isFill fillAt cubes cubeAt corner mixed mixedAt inLattice free visitable crossed lowest inner inside mayStart startTests
+worked-start = refl

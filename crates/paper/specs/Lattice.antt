@@ -1,4 +1,5 @@
--- Document 01, "Lattice, sides, numbers", and document 02 (iii), "−32768 is no sample". Assumes nothing.
+-- Document 01, "Lattice, sides, numbers", and document 02, (iii) "−32768 is no sample" and (iv) "A better start where none is named".
+-- Assumes nothing.
 use mathlib.Core.Path.{_≡_, refl}
 use mathlib.Core.Bool.{Bool, true, false, not, _&&_}
 use mathlib.Core.List.{List, [], _∷_, _++_, map}
@@ -177,14 +178,23 @@ visited L start = reached (steps L) (cubes (L .size)) start
 unfoldable pub lowest : Sizes → (ℕ → Bool) → ℕ
 lowest z p = first p (cubes z) (range 0 (cubes z))
 
--- "If the caller names no start, the start is the crossed cube of lowest number": the cubes that may then be the start
-abbrev pub mayStart : Lattice → ℕ → Bool
-mayStart L k = crossed L k
+-- document 02 (iv), "none of its six faces in the lattice's bounds": on an axis of n samples, neither of the two faces of the cube at x, at
+-- the samples x and x + 1, is at the first sample or at the last
+unfoldable pub inner : ℕ → ℕ → Bool
+inner n x = ltb 0 x && ltb (x + 2) n
 
--- ── worked, of document 02 (iii) ──
+unfoldable pub inside : Sizes → Place → Bool
+inside z p = inner (z .nx) (p .x) && inner (z .ny) (p .y) && inner (z .nz) (p .z)
 
--- 3×3×3, only (1, 1, 1) air and the fill at (0, 0, 0): its crossed cubes, and those visited from the cube at (1, 0, 0). Then the corners of
--- a cube at which the fill leaves it visitable, and those at which −32767 does
+-- "If the caller names no start, the start is the crossed cube of lowest number"; "The default becomes the lowest crossed cube with none of
+-- its six faces in the lattice's bounds." (02 (iv)): the cubes that may then be the start
+unfoldable pub mayStart : Lattice → ℕ → Bool
+mayStart L k = crossed L k && inside (L .size) (cubeAt (L .size) k)
+
+-- ── worked, of document 02 (iii) and (iv) ──
+
+-- (iii): 3×3×3, only (1, 1, 1) air and the fill at (0, 0, 0): its crossed cubes, and those visited from the cube at (1, 0, 0). Then the
+-- corners of a cube at which the fill leaves it visitable, and those at which −32767 does
 worked :
     let o : ℤ = negsuc 0 in
     let ring : Lattice = lattice (record { nx = 3; ny = 3; nz = 3 }) (fill ∷ replicate 12 o ++ pos 1 ∷ replicate 13 o) in
@@ -194,3 +204,17 @@ worked :
     ≡ (range 1 7 ∷ range 1 7 ∷ [] ∷ range 0 8 ∷ [])
 unfolding grow rounds reached air sampleNo valueAt airAt isFill fillAt cubes cubeNo cubeAt corner mixed mixedAt inLattice free visitable crossed faces stepOver steps visited
 worked = refl
+
+-- (iv): the cubes of 4×5×6 samples that have no face in the bounds; then, of 6×4×4, only (0, 0, 0) and (4, 2, 2) air, the crossed cubes
+-- that may be the start, the lowest of them, and the lowest crossed cube
+worked-start :
+    let o : ℤ = negsuc 0 in
+    let z : Sizes = record { nx = 4; ny = 5; nz = 6 } in
+    let tray : Lattice = lattice (record { nx = 6; ny = 4; nz = 4 }) (pos 1 ∷ replicate 63 o ++ pos 1 ∷ replicate 31 o) in
+    (keep (λ k. inside z (cubeAt z k)) (range 0 60)
+    ∷ keep (mayStart tray) (range 0 45)
+    ∷ (lowest (tray .size) (mayStart tray) ∷ lowest (tray .size) (crossed tray) ∷ [])
+    ∷ [])
+    ≡ ((16 ∷ 19 ∷ 28 ∷ 31 ∷ 40 ∷ 43 ∷ []) ∷ (23 ∷ []) ∷ (23 ∷ 0 ∷ []) ∷ [])
+unfolding air sampleNo valueAt airAt isFill fillAt cubes cubeAt corner mixed mixedAt inLattice free visitable crossed lowest inner inside mayStart
+worked-start = refl

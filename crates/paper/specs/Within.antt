@@ -48,6 +48,15 @@ pub record CubeIn (n : Sizes) (p : Place) : Type 0 where
   pub y : p .y + 1 < n .ny
   pub z : p .z + 1 < n .nz
 
+-- a place of a cube with none of its six faces in the lattice's bounds
+pub record CubeInside (n : Sizes) (p : Place) : Type 0 where
+  pub x-low : 0 < p .x
+  pub x-high : p .x + 2 < n .nx
+  pub y-low : 0 < p .y
+  pub y-high : p .y + 2 < n .ny
+  pub z-low : 0 < p .z
+  pub z-high : p .z + 2 < n .nz
+
 -- the cube that can hold a triangle: at the least x, y and z of the anchors of its edges
 unfoldable pub cubeOf : Sizes → Tri → Place
 cubeOf z t =

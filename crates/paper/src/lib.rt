@@ -1,4 +1,4 @@
-// What document 01's answers and starts are made of. The definitions that it gives them stand in specs/.
+// What the documents' answers and starts are made of. The definitions that they give them stand in specs/.
 
 // How many samples a lattice has on each axis.
 #[repr(C)]
@@ -16,9 +16,10 @@ pub struct Place {
     pub z: usize,
 }
 
-// The cube to start at, or none named.
+// The start: none named, the lowest crossed cube by name, or the cube at a place.
 pub enum Start {
     Unnamed,
+    Lowest,
     Cube(Place),
 }
 

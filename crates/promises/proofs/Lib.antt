@@ -1,2 +1,3 @@
 -- The page.
+pub mod Starting
 pub mod Promises

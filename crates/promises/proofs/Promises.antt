@@ -4,23 +4,23 @@
 -- the statements name. Assumes nothing.
 use mathlib.Core.Path.{_≡_, ap, _∙_}
 use mathlib.Core.List.{List}
-use mathlib.Core.Bool.{true, false}
+use mathlib.Core.Bool.{true, false, _&&_}
 use Prim.Native.Nat.{ℕ, _+_, _*_, _<_, _≤_}
 use lib.IntN.{ℤ, pos, negsuc}
 use lib.Signed.{ltZ}
 use lib.Dec.{T}
 use lib.ListN.{length, getD, take}
 use lib.Ieee.{Float, nan, binary32, ofBits, toBits, sub, lt}
-use Rattle.lists.specs.Lists.{range, each, over, isIn}
+use Rattle.lists.specs.Lists.{range, each, all, over, isIn}
 use Rattle.paper.specs.declared.Sizes.{Sizes}
 use Rattle.paper.specs.declared.Place.{Place}
 use Rattle.paper.specs.declared.Start.{Start}
-use Rattle.paper.specs.declared.Start.the-variants.{Cube}
+use Rattle.paper.specs.declared.Start.the-variants.{Unnamed, Lowest, Cube}
 use Rattle.paper.specs.declared.Built.{Built}
 use Rattle.paper.specs.declared.Wrote.{Wrote}
 use Rattle.paper.specs.declared.Got.{Got}
 use Rattle.paper.specs.declared.Verdict.{Verdict}
-use Rattle.paper.specs.Lattice.{Lattice, fillAt, noFill, cubeAt, corner, visited}
+use Rattle.paper.specs.Lattice.{Lattice, fillAt, noFill, cubeAt, corner, visited, inLattice, faces, inside}
 use Rattle.paper.specs.Within.{CubeIn}
 use Rattle.paper.specs.Sheet.{sheetOf, vertexWords, triangleWords}
 use Rattle.paper.specs.Tests.{judge, verdict}
@@ -47,8 +47,11 @@ use Rattle.floats.proofs.Promises as floats
 use Rattle.paper.proofs.Agreement as agree
 use Rattle.paper.proofs.Passing.{sample-tests}
 use Rattle.paper.proofs.Fill as filling
+use Rattle.paper.proofs.Starts.{inside-joined}
 use Rattle.paper.proofs.Cases.{parted}
 use Rattle.paper.proofs.Parted.{Sharing, sharing}
+use Rattle.promises.specs.Starting.{Fit, LowestFit, OldBuilds, OldChecks}
+use Rattle.promises.proofs.Starting as starting
 use Rattle.sheetfile.proofs.RoundTrips as trips
 use Rattle.acceptance.proofs.Exact as exact
 use Rattle.acceptance.proofs.Built as made
@@ -154,6 +157,41 @@ module _ (L : Lattice) (p : Place) (h : CubeIn (L .size) p) (c : ℕ) (l : c < 8
 -- "Pieces parted by fill may share a lattice edge; each has its own vertex there.": these two do
 pub pieces-share : (L : Lattice) × (j : ℕ) × (k : ℕ) × (e : ℕ) × Sharing L j k e
 pieces-share = (parted, 1, 2, 30, sharing)
+
+-- ── document 02 (iv): "A better start where none is named" ──
+
+module _ (L : Lattice) where
+  -- "the lowest crossed cube with none of its six faces in the lattice's bounds": the start that is found is crossed and inside, and no
+  -- lower cube is both
+  pub start-found : (n : Lengths) → judge (sampleTests L Unnamed n) .number ≡ 0 → LowestFit L (startOf L Unnamed)
+  start-found = starting.start-found L
+
+  -- "5 where no such cube exists", and only there: where 1 to 3 pass
+  module _ (n : Lengths) (e : judge (shapeTests L n) .number ≡ 0) where
+    pub start-refused : ((k : ℕ) → Fit L k → ⊥) → judge (sampleTests L Unnamed n) ≡ verdict 5 0
+    start-refused = starting.no-start L n e
+
+    pub start-there : (k : ℕ) → Fit L k → judge (sampleTests L Unnamed n) ≡ verdict 0 0
+    start-there = starting.some-start L n e
+
+  -- those that "now ask for the old one by name" are given what document 01 gave where none was named, and nothing else
+  pub lowest-builds : {before : Lent} {r : Built} {after : Lent} → Builds L Lowest before r after → OldBuilds L before r after
+  lowest-builds = starting.old-builds L
+
+  pub builds-lowest : {before : Lent} {r : Built} {after : Lent} → OldBuilds L before r after → Builds L Lowest before r after
+  builds-lowest = starting.builds-old L
+
+  pub lowest-checks : {bs : List ℕ} {before : Work} {r : Verdict} {after : Work}
+      → Checks L Lowest bs before r after → OldChecks L bs before r after
+  lowest-checks = starting.old-checks L
+
+  pub checks-lowest : {bs : List ℕ} {before : Work} {r : Verdict} {after : Work}
+      → OldChecks L bs before r after → Checks L Lowest bs before r after
+  checks-lowest = starting.checks-old L
+
+-- "none of its six faces in the lattice's bounds": beyond each of them is a cube of the lattice
+pub inside-faces : (z : Sizes) (p : Place) → inside z p ≡ all (λ f. f .there && inLattice z (f .beyond)) (faces p)
+inside-faces = inside-joined
 
 -- ── document 02 (i): binary STL; the contracts are `StlWrites` and `StlReads` (stl/specs) ──
 

@@ -1,11 +1,13 @@
 -- What tests 1 to 5 answer and leave known. Assumes nothing.
 use mathlib.Core.Path.{_≡_}
+use mathlib.Core.Bool.{Bool, true, false}
 use mathlib.Core.List.{List}
 use Prim.Native.Nat.{ℕ, _<_}
 use lib.Dec.{T}
 use lib.IntN.{ℤ}
 use Rattle.paper.specs.declared.Sizes.{Sizes}
 use Rattle.paper.specs.declared.Start.{Start}
+use Rattle.paper.specs.declared.Start.the-variants.{Unnamed, Lowest}
 use Rattle.paper.specs.Lattice.{Lattice, lattice, cubes, crossed}
 use Rattle.paper.specs.Tests.{judge}
 use Rattle.paper.specs.Room.{Lengths}
@@ -13,6 +15,11 @@ use Rattle.paper.specs.Build.{startOf, shapeTests, startTests, sampleTests}
 use Rattle.paper.specs.Within.{Full, Roomy}
 use Rattle.rows.specs.Rows.{HasBoth}
 use Rattle.ready.specs.declared.Ready.{Ready}
+
+-- the start without a place: none named, where cubes off the bounds are sought, or the lowest by name
+abbrev pub unplaced : Bool → Start
+unplaced true = Unnamed
+unplaced false = Lowest
 
 -- tests 1 to 3: the number of the first that fails, or 0; n are the lengths of the work slices
 pub record Shaped (L : Lattice) (n : Lengths) (r : ℕ) : Type 0 where

@@ -8,8 +8,8 @@ ghost use lib.ListN.{length};
 ghost use Rattle.paper.specs.Lattice.{lattice, inLattice};
 ghost use Rattle.paper.specs.Room.{ofLengths, roomy};
 ghost use Rattle.paper.specs.Within.{Sized};
-ghost use Rattle.paper.specs.declared.Start.the-variants.{Unnamed, Cube};
-ghost use Rattle.ready.specs.Ready.{Shaped, ChosenBy, Readied};
+ghost use Rattle.paper.specs.declared.Start.the-variants.{Cube};
+ghost use Rattle.ready.specs.Ready.{unplaced, Shaped, ChosenBy, Readied};
 
 // 0 or the number of a refusal, and the start cube where it is 0.
 pub struct Ready {
@@ -65,12 +65,12 @@ fn named_cube(rows: &[u64], may: &[u64], sizes: Sizes, p: Place) -> Ready
     }
 }
 
-// Test 5 where no cube is named.
-fn lowest_cube(rows: &[u64], may: &[u64], sizes: Sizes) -> Ready
+// Test 5 where no place is given: the lowest crossed cube, of all or of those off the bounds.
+fn lowest_cube(rows: &[u64], may: &[u64], sizes: Sizes, off: bool) -> Ready
     requires { ⌜ Sized sizes × (sizes .ny * sizes .nz ≤ length (now rows)) × (sizes .ny * sizes .nz ≤ length (now may)) ⌝ }
-    ensures { λ r. ⌜ ChosenBy sizes (now (rows .entry)) (now (may .entry)) Unnamed r ⌝ }
+    ensures { λ r. ⌜ ChosenBy sizes (now (rows .entry)) (now (may .entry)) (unplaced off) r ⌝ }
 {
-    let k = rows::lowest_crossed(rows, may, sizes);
+    let k = rows::lowest_crossed(rows, may, sizes, off);
     let n = lattice::cube_count(sizes);
     if n <= k {
         return Ready { number: 5, cube: 0 };
@@ -84,7 +84,8 @@ fn choose(rows: &[u64], may: &[u64], sizes: Sizes, start: Start) -> Ready
     ensures { λ r. ⌜ ChosenBy sizes (now (rows .entry)) (now (may .entry)) start r ⌝ }
 {
     match start {
-        Start::Unnamed => lowest_cube(rows, may, sizes),
+        Start::Unnamed => lowest_cube(rows, may, sizes, true),
+        Start::Lowest => lowest_cube(rows, may, sizes, false),
         Start::Cube(p) => named_cube(rows, may, sizes, p),
     }
 }

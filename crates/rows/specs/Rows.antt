@@ -1,6 +1,6 @@
 -- The sides of a row of samples as one word, and its fill as another; what rows say of cubes and faces. Assumes nothing.
 use mathlib.Core.Path.{_≡_}
-use mathlib.Core.Bool.{Bool, cond, not, _&&_}
+use mathlib.Core.Bool.{Bool, true, false, cond, not, _&&_}
 use mathlib.Core.List.{List, [], _∷_, map}
 use Prim.Native.Nat.{ℕ, _+_, _-_, _*_, _/_, _%_, _^_, _≤_, _<_}
 use lib.Bits.{bitAnd, bitOr, bitXor}
@@ -10,7 +10,7 @@ use lib.ListN.{length, getD}
 use Rattle.lists.specs.Lists.{range, each, any, isIn}
 use Rattle.paper.specs.declared.Sizes.{Sizes}
 use Rattle.paper.specs.declared.Place.{Place}
-use Rattle.paper.specs.Lattice.{Lattice, place, air, airAt, isFill, mixed, cubeNo, inLattice, visitable}
+use Rattle.paper.specs.Lattice.{Lattice, place, air, airAt, isFill, mixed, cubeNo, inLattice, visitable, crossed, inside, mayStart}
 use Rattle.sides.specs.Pattern.{bits}
 use Rattle.bits.specs.Words.{bit, word, raised}
 use Rattle.rows.specs.declared.Quad.{Quad}
@@ -155,6 +155,24 @@ faceRow q i =
 -- whether the cube at p is crossed, by rows of sides and of cubes that may be visited, of a lattice of size z
 unfoldable pub crossedBy : Sizes → List ℕ → List ℕ → Place → Bool
 crossedBy z rows may p = bit (getD may (rowNo z p) 0) (p .x) && crossedIn (quadAt rows (z .ny) (rowNo z p)) (p .x)
+
+-- the cubes at y and z that have none of their six faces in the lattice's bounds
+unfoldable pub insideRow : Sizes → ℕ → ℕ → ℕ
+insideRow n y z = word (λ x. inside n (place x y z)) (n .nx - 2)
+
+-- the cubes that are sought for a start: the crossed ones, or only those of them that are off the bounds
+abbrev pub wanted : Bool → Lattice → ℕ → Bool
+wanted true L = mayStart L
+wanted false L = crossed L
+
+-- those of the crossed cubes m at y and z, and whether the cube at p is one, by the rows
+unfoldable pub wantedRow : Bool → Sizes → ℕ → ℕ → ℕ → ℕ
+wantedRow true n y z m = bitAnd m (insideRow n y z)
+wantedRow false n y z m = m
+
+unfoldable pub wantedBy : Bool → Sizes → List ℕ → List ℕ → Place → Bool
+wantedBy true z rows may p = crossedBy z rows may p && inside z p
+wantedBy false z rows may p = crossedBy z rows may p
 
 -- how many bits of a word to look at: none where there is none
 unfoldable pub lookedAt : ℕ → ℕ → ℕ

@@ -132,13 +132,7 @@ const LISTED: [i16; 8] = [3, -1, -1, -1, -1, -1, -1, -1];
 // The listing's sheet.
 fn build_listed(vertices: &mut [i32], triangles: &mut [u32]) -> Built {
     let samples = LISTED;
-    build(
-        &samples,
-        sized(2, 2, 2),
-        Start::Unnamed,
-        vertices,
-        triangles,
-    )
+    build(&samples, sized(2, 2, 2), Start::Lowest, vertices, triangles)
 }
 
 // A file against the listing's samples, in work room for just these.
@@ -150,7 +144,7 @@ fn check_listed(bytes: &[u8]) -> Verdict {
     checker::check(
         &samples,
         sized(2, 2, 2),
-        Start::Unnamed,
+        Start::Lowest,
         bytes,
         &mut words,
         &mut waiting,
@@ -223,7 +217,7 @@ fn listing() {
 fn rtn_air() {
     let samples: [i16; 8] = [-1, -1, -1, 3, -1, -1, -1, -1];
     text(b"2x2x2, only (1,1,0) air: ");
-    answer(&samples, sized(2, 2, 2), Start::Unnamed);
+    answer(&samples, sized(2, 2, 2), Start::Lowest);
 }
 
 fn middle_from(samples: &[i16], p: Place) {
@@ -251,7 +245,7 @@ fn middle_in_room(samples: &[i16], nv: usize, nt: usize)
     say(b"3x3x3, only (1,1,1) air, room ", nv);
     say(b" and ", nt);
     text(b": ");
-    answer_in(samples, sized(3, 3, 3), Start::Unnamed, nv, nt);
+    answer_in(samples, sized(3, 3, 3), Start::Lowest, nv, nt);
 }
 
 // "3×3×3, only (1,1,1) air"
@@ -283,7 +277,7 @@ fn ends_air() {
 fn all_zero() {
     let samples = [0i16; 8];
     text(b"2x2x2, all samples 0: ");
-    answer(&samples, sized(2, 2, 2), Start::Unnamed);
+    answer(&samples, sized(2, 2, 2), Start::Lowest);
 }
 
 // ── t ──
@@ -322,7 +316,7 @@ fn axes(sizes: Sizes, n: usize)
     samples[0] = 3;
     say_sizes(sizes);
     text(b", only (0,0,0) air: ");
-    answer(&samples[..n], sizes, Start::Unnamed);
+    answer(&samples[..n], sizes, Start::Lowest);
 }
 
 // Each axis in turn has n samples, the others 2.

@@ -3,11 +3,21 @@
 use crate::lattice::{Lattice, Point};
 use crate::sheet::Sheet;
 
+/// Where a sheet starts (document 02 (iv)).
+#[derive(Clone, Copy, Debug, PartialEq, Eq)]
+pub enum Start {
+    /// None is named: the lowest crossed cube with none of its six faces in the lattice's bounds.
+    Unnamed,
+    /// The lowest crossed cube, by name.
+    Lowest,
+    Cube([usize; 3]),
+}
+
 /// What a build or a check is asked about.
 #[derive(Clone, Copy)]
 pub struct Volume<'a> {
     pub sizes: [usize; 3],
-    pub start: Option<[usize; 3]>,
+    pub start: Start,
     pub samples: &'a [i16],
 }
 
@@ -50,7 +60,7 @@ pub(crate) fn begin<'a>(volume: Volume<'a>, work: &Work) -> Result<(Lattice<'a>,
         return Err(3);
     }
     let start = match volume.start {
-        Some(named) => {
+        Start::Cube(named) => {
             let [x, y, z] = named.map(|v| i64::try_from(v).unwrap_or(i64::MAX));
             let cube = Point { x, y, z };
             if !lattice.is_cube(cube) {
@@ -58,7 +68,8 @@ pub(crate) fn begin<'a>(volume: Volume<'a>, work: &Work) -> Result<(Lattice<'a>,
             }
             Some(cube).filter(|cube| lattice.crossed(*cube))
         }
-        None => lattice.cubes().find(|cube| lattice.crossed(*cube)),
+        Start::Lowest => lattice.cubes().find(|cube| lattice.crossed(*cube)),
+        Start::Unnamed => lattice.cubes().find(|cube| lattice.crossed(*cube) && lattice.inside(*cube)),
     };
     start.map(|cube| (lattice, cube)).ok_or(5)
 }

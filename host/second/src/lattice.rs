@@ -90,6 +90,11 @@ impl<'a> Lattice<'a> {
         within(p.x, self.sizes.x) && within(p.y, self.sizes.y) && within(p.z, self.sizes.z)
     }
 
+    /// "With none of its six faces in the lattice's bounds": there is a cube beyond each of them.
+    pub fn inside(&self, cube: Point) -> bool {
+        STEPS.iter().all(|step| self.is_cube(cube.plus(*step)))
+    }
+
     /// Every cube, by rising number.
     pub fn cubes(&self) -> impl Iterator<Item = Point> {
         let Point { x: nx, y: ny, z: nz } = self.sizes;

@@ -1,11 +1,11 @@
 //! The listing's lines.
 
-use crate::build::{begin, Volume, Work};
+use crate::build::{begin, Start, Volume, Work};
 use crate::sheet::Sheet;
 use std::fmt::Write;
 
-/// What the listing prints for a volume file, with room for any lattice to 64 and an optional start.
-pub fn listing(file: &[u8], start: Option<[usize; 3]>) -> String {
+/// What the listing prints for a volume file, with room for any lattice to 64, from a start.
+pub fn listing(file: &[u8], start: Start) -> String {
     lines(file, start).unwrap_or_else(|number| format!("refused {number}\n"))
 }
 
@@ -22,7 +22,7 @@ pub fn volume(file: &[u8]) -> Result<([usize; 3], Vec<i16>), usize> {
     Ok((sizes, body.chunks_exact(2).map(|b| i16::from_le_bytes([b[0], b[1]])).collect()))
 }
 
-fn lines(file: &[u8], start: Option<[usize; 3]>) -> Result<String, usize> {
+fn lines(file: &[u8], start: Start) -> Result<String, usize> {
     let (sizes, samples) = volume(file)?;
     let (mut words, mut waiting, mut slots) = (vec![0; 64 * 64 * 64], vec![0; 64 * 64 * 64], vec![0; 7 * 64 * 64 * 64]);
     let work = Work { words: &mut words, waiting: &mut waiting, slots: &mut slots };

@@ -1,6 +1,6 @@
 //! The second mesher beside the hand-written C mesher, on random lattices.
 
-use second::{build, Volume, Work};
+use second::{build, Start, Volume, Work};
 
 /// A small generator of numbers (xorshift).
 struct Numbers(u64);
@@ -18,7 +18,7 @@ impl Numbers {
     }
 }
 
-fn both(sizes: [u16; 3], start: Option<[u16; 3]>, samples: &[i16], room: [usize; 2]) {
+fn both(sizes: [u16; 3], start: baseline::Start, samples: &[i16], room: [usize; 2]) {
     let wide = |triple: [u16; 3]| triple.map(usize::from);
     let count: usize = wide(sizes).iter().product();
     let lend = || {
@@ -30,9 +30,22 @@ fn both(sizes: [u16; 3], start: Option<[u16; 3]>, samples: &[i16], room: [usize;
     let by_c = baseline::build(sizes, start, samples, lent);
     let mut r = lend();
     let mut work = Work { words: &mut r.2, waiting: &mut r.3, slots: &mut r.4 };
-    let built = build(Volume { sizes: wide(sizes), start: start.map(wide), samples }, &mut r.0, &mut r.1, &mut work);
+    let named = match start {
+        baseline::Start::Unnamed => Start::Unnamed,
+        baseline::Start::Lowest => Start::Lowest,
+        baseline::Start::Cube(cube) => Start::Cube(wide(cube)),
+    };
+    let built = build(Volume { sizes: wide(sizes), start: named, samples }, &mut r.0, &mut r.1, &mut work);
     assert_eq!([built.number, built.vertices, built.triangles, built.cubes], by_c, "{sizes:?} {start:?}");
     assert!(r == c, "slices differ: {sizes:?} {start:?} {samples:?}");
+}
+
+fn any_start(n: &mut Numbers, sizes: [u16; 3]) -> baseline::Start {
+    match n.below(4) {
+        0 => baseline::Start::Unnamed,
+        1 => baseline::Start::Lowest,
+        _ => baseline::Start::Cube(sizes.map(|axis| n.below(u64::from(axis)) as u16)),
+    }
 }
 
 #[test]
@@ -44,7 +57,7 @@ fn small_lattices() {
         let spread = [3, 5, 200, 65_536][n.below(4) as usize];
         let samples: Vec<i16> =
             (0..count).map(|_| (n.below(spread) as i64 - spread as i64 / 2).clamp(-32768, 32767) as i16).collect();
-        let start = if n.below(2) == 0 { None } else { Some(sizes.map(|axis| n.below(u64::from(axis)) as u16)) };
+        let start = any_start(&mut n, sizes);
         let room =
             if n.below(8) == 0 { [n.below(400) as usize, n.below(800) as usize] } else { [28 * count, 36 * count] };
         both(sizes, start, &samples, room);
@@ -75,7 +88,7 @@ fn small_lattices_with_fill() {
             }
         };
         let samples: Vec<i16> = (0..nx * ny * nz).map(&mut sample).collect();
-        let start = if n.below(2) == 0 { None } else { Some(sizes.map(|axis| n.below(u64::from(axis)) as u16)) };
+        let start = any_start(&mut n, sizes);
         both(sizes, start, &samples, [28 * samples.len(), 36 * samples.len()]);
     }
 }
@@ -86,12 +99,16 @@ fn a_full_lattice_of_noise_in_a_ring() {
     let far = |i: usize| (2 * (i % 64) as i64 - 63).pow(2) + (2 * (i / 64 % 64) as i64 - 63).pow(2) > 62 * 62;
     let sample = |i: usize| if far(i) { i16::MIN } else { n.next() as i16 };
     let samples: Vec<i16> = (0..64 * 64 * 64).map(sample).collect();
-    both([64, 64, 64], None, &samples, [4 * 7 * 64 * 64 * 64, 3 * 12 * 63 * 63 * 63]);
+    for start in [baseline::Start::Unnamed, baseline::Start::Lowest] {
+        both([64, 64, 64], start, &samples, [4 * 7 * 64 * 64 * 64, 3 * 12 * 63 * 63 * 63]);
+    }
 }
 
 #[test]
 fn a_full_lattice_of_noise() {
     let mut n = Numbers(77);
     let samples: Vec<i16> = (0..64 * 64 * 64).map(|_| n.next() as i16).collect();
-    both([64, 64, 64], None, &samples, [4 * 7 * 64 * 64 * 64, 3 * 12 * 63 * 63 * 63]);
+    for start in [baseline::Start::Unnamed, baseline::Start::Lowest] {
+        both([64, 64, 64], start, &samples, [4 * 7 * 64 * 64 * 64, 3 * 12 * 63 * 63 * 63]);
+    }
 }

@@ -1,7 +1,8 @@
-//! Document 01's sheets worked by hand, and those of document 02 (iii), on the second mesher.
+//! Document 01's sheets worked by hand, and those of document 02 (iii) and (iv), on the second mesher. Those of document 01 that give
+//! no start, and of (iii) that start at the lowest cube, name the lowest.
 
 use second::{
-    build, check, crossing, listing, parse, read, serialize, write, Built, Content, Verdict, Volume, Work, FILL,
+    build, check, crossing, listing, parse, read, serialize, write, Built, Content, Start, Verdict, Volume, Work, FILL,
 };
 
 const ROOM: usize = 64 * 64 * 64;
@@ -24,7 +25,7 @@ impl Room {
 }
 
 /// Counts with room for so many vertices and triangles.
-fn counts(sizes: [usize; 3], samples: &[i16], start: Option<[usize; 3]>, room: [usize; 2]) -> [usize; 4] {
+fn counts(sizes: [usize; 3], samples: &[i16], start: Start, room: [usize; 2]) -> [usize; 4] {
     let (mut vertices, mut triangles) = (vec![0; 4 * room[0]], vec![0; 3 * room[1]]);
     let volume = Volume { sizes, start, samples };
     let Built { number, vertices, triangles, cubes } =
@@ -33,7 +34,8 @@ fn counts(sizes: [usize; 3], samples: &[i16], start: Option<[usize; 3]>, room: [
 }
 
 fn verdict(sizes: [usize; 3], samples: &[i16], bytes: &[u8]) -> [usize; 2] {
-    let Verdict { number, place } = check(Volume { sizes, start: None, samples }, bytes, &mut Room::new().lend());
+    let Verdict { number, place } =
+        check(Volume { sizes, start: Start::Lowest, samples }, bytes, &mut Room::new().lend());
     [number, place]
 }
 
@@ -58,7 +60,7 @@ fn with_fill(sizes: [usize; 3], air: &[[usize; 3]], fill: &[[usize; 3]]) -> Vec<
 /// The edges of the vertices from a start.
 fn edges(sizes: [usize; 3], samples: &[i16], start: [usize; 3]) -> Vec<i32> {
     let (mut vertices, mut triangles) = (vec![0; 4 * ROOM], vec![0; 12 * ROOM]);
-    let volume = Volume { sizes, start: Some(start), samples };
+    let volume = Volume { sizes, start: Start::Cube(start), samples };
     let built = build(volume, &mut vertices, &mut triangles, &mut Room::new().lend());
     vertices.chunks_exact(4).take(built.vertices).map(|record| record[0]).collect()
 }
@@ -77,11 +79,11 @@ fn listed_content() -> Content {
 fn the_listing() {
     let mut file: Vec<u8> = [2u16, 2, 2].iter().flat_map(|axis| axis.to_le_bytes()).collect();
     file.extend(LISTED.iter().flat_map(|sample| sample.to_le_bytes()));
-    assert_eq!(listing(&file, None), "3 1 1\nv 0 49152 0 0\nv 1 0 49152 0\nv 2 0 0 49152\nt 1 2 0\n");
-    assert_eq!(listing(&file[..5], None), "refused 1\n");
-    assert_eq!(listing(&file[..21], None), "refused 2\n");
+    assert_eq!(listing(&file, Start::Lowest), "3 1 1\nv 0 49152 0 0\nv 1 0 49152 0\nv 2 0 0 49152\nt 1 2 0\n");
+    assert_eq!(listing(&file[..5], Start::Lowest), "refused 1\n");
+    assert_eq!(listing(&file[..21], Start::Lowest), "refused 2\n");
     file.push(0);
-    assert_eq!(listing(&file, None), "refused 2\n");
+    assert_eq!(listing(&file, Start::Lowest), "refused 2\n");
 }
 
 #[test]
@@ -143,44 +145,44 @@ fn its_checks() {
 
 #[test]
 fn counts_by_hand() {
-    assert_eq!(counts([2, 2, 2], &with_air([2, 2, 2], &[[1, 1, 0]]), None, [9, 9]), [0, 6, 5, 1]);
+    assert_eq!(counts([2, 2, 2], &with_air([2, 2, 2], &[[1, 1, 0]]), Start::Lowest, [9, 9]), [0, 6, 5, 1]);
 
     let single = with_air([3, 3, 3], &[[1, 1, 1]]);
     for n in 0..8 {
-        let start = Some([n % 2, n / 2 % 2, n / 4]);
+        let start = Start::Cube([n % 2, n / 2 % 2, n / 4]);
         assert_eq!(counts([3, 3, 3], &single, start, [14, 24]), [0, 14, 24, 8]);
     }
-    assert_eq!(counts([3, 3, 3], &single, None, [13, 24]), [6, 14, 24, 8]);
-    assert_eq!(counts([3, 3, 3], &single, None, [14, 23]), [7, 14, 24, 8]);
+    assert_eq!(counts([3, 3, 3], &single, Start::Lowest, [13, 24]), [6, 14, 24, 8]);
+    assert_eq!(counts([3, 3, 3], &single, Start::Lowest, [14, 23]), [7, 14, 24, 8]);
 
     let pair = with_air([5, 2, 2], &[[0, 0, 0], [4, 0, 0]]);
-    assert_eq!(counts([5, 2, 2], &pair, Some([0, 0, 0]), [9, 9]), [0, 3, 1, 1]);
-    assert_eq!(counts([5, 2, 2], &pair, Some([3, 0, 0]), [9, 9]), [0, 5, 3, 1]);
-    assert_eq!(counts([5, 2, 2], &pair, Some([1, 0, 0]), [9, 9]), [5, 0, 0, 0]);
-    assert_eq!(counts([5, 2, 2], &pair, Some([4, 0, 0]), [9, 9]), [4, 0, 0, 0]);
-    assert_eq!(counts([5, 2, 2], &pair, Some([usize::MAX, 0, 0]), [9, 9]), [4, 0, 0, 0]);
+    assert_eq!(counts([5, 2, 2], &pair, Start::Cube([0, 0, 0]), [9, 9]), [0, 3, 1, 1]);
+    assert_eq!(counts([5, 2, 2], &pair, Start::Cube([3, 0, 0]), [9, 9]), [0, 5, 3, 1]);
+    assert_eq!(counts([5, 2, 2], &pair, Start::Cube([1, 0, 0]), [9, 9]), [5, 0, 0, 0]);
+    assert_eq!(counts([5, 2, 2], &pair, Start::Cube([4, 0, 0]), [9, 9]), [4, 0, 0, 0]);
+    assert_eq!(counts([5, 2, 2], &pair, Start::Cube([usize::MAX, 0, 0]), [9, 9]), [4, 0, 0, 0]);
 
-    assert_eq!(counts([2, 2, 2], &[0; 8], None, [9, 9]), [5, 0, 0, 0]);
-    assert_eq!(counts([1, 2, 2], &[0; 4], None, [9, 9]), [1, 0, 0, 0]);
-    assert_eq!(counts([2, 65, 2], &[0; 260], None, [9, 9]), [1, 0, 0, 0]);
-    assert_eq!(counts([2, 64, 2], &[0; 256], None, [9, 9]), [5, 0, 0, 0]);
-    assert_eq!(counts([2, 2, 2], &[0; 9], None, [9, 9]), [2, 0, 0, 0]);
+    assert_eq!(counts([2, 2, 2], &[0; 8], Start::Lowest, [9, 9]), [5, 0, 0, 0]);
+    assert_eq!(counts([1, 2, 2], &[0; 4], Start::Lowest, [9, 9]), [1, 0, 0, 0]);
+    assert_eq!(counts([2, 65, 2], &[0; 260], Start::Lowest, [9, 9]), [1, 0, 0, 0]);
+    assert_eq!(counts([2, 64, 2], &[0; 256], Start::Lowest, [9, 9]), [5, 0, 0, 0]);
+    assert_eq!(counts([2, 2, 2], &[0; 9], Start::Lowest, [9, 9]), [2, 0, 0, 0]);
 }
 
 #[test]
 fn fill_at_a_corner() {
     let sizes = [3, 3, 3];
     let samples = with_fill(sizes, &[[1, 1, 1]], &[[0, 0, 0]]);
-    assert_eq!(counts(sizes, &samples, Some([0, 0, 0]), [14, 24]), [5, 0, 0, 0]);
+    assert_eq!(counts(sizes, &samples, Start::Cube([0, 0, 0]), [14, 24]), [5, 0, 0, 0]);
     for n in 1..8 {
-        assert_eq!(counts(sizes, &samples, Some([n % 2, n / 2 % 2, n / 4]), [14, 23]), [0, 14, 23, 7]);
+        assert_eq!(counts(sizes, &samples, Start::Cube([n % 2, n / 2 % 2, n / 4]), [14, 23]), [0, 14, 23, 7]);
     }
-    assert_eq!(counts(sizes, &samples, None, [14, 23]), [0, 14, 23, 7]);
-    assert_eq!(counts(sizes, &samples, None, [13, 23]), [6, 14, 23, 7]);
-    assert_eq!(counts(sizes, &samples, None, [14, 22]), [7, 14, 23, 7]);
+    assert_eq!(counts(sizes, &samples, Start::Lowest, [14, 23]), [0, 14, 23, 7]);
+    assert_eq!(counts(sizes, &samples, Start::Lowest, [13, 23]), [6, 14, 23, 7]);
+    assert_eq!(counts(sizes, &samples, Start::Lowest, [14, 22]), [7, 14, 23, 7]);
     // the fill in place of the air: nothing is crossed
-    assert_eq!(counts(sizes, &with_fill(sizes, &[], &[[1, 1, 1]]), None, [14, 24]), [5, 0, 0, 0]);
-    assert_eq!(counts(sizes, &samples, Some([2, 0, 0]), [14, 23]), [4, 0, 0, 0]);
+    assert_eq!(counts(sizes, &with_fill(sizes, &[], &[[1, 1, 1]]), Start::Lowest, [14, 24]), [5, 0, 0, 0]);
+    assert_eq!(counts(sizes, &samples, Start::Cube([2, 0, 0]), [14, 23]), [4, 0, 0, 0]);
 }
 
 #[test]
@@ -188,15 +190,15 @@ fn pieces_parted_by_fill_share_an_edge() {
     let sizes = [3, 3, 2];
     let samples = with_fill(sizes, &[[1, 1, 0]], &[[0, 0, 0], [2, 2, 0]]);
     for start in [[1, 0, 0], [0, 1, 0]] {
-        assert_eq!(counts(sizes, &samples, Some(start), [5, 3]), [0, 5, 3, 1]);
+        assert_eq!(counts(sizes, &samples, Start::Cube(start), [5, 3]), [0, 5, 3, 1]);
         assert!(edges(sizes, &samples, start).contains(&30));
     }
     assert_eq!(edges(sizes, &samples, [1, 0, 0]), [8, 10, 12, 28, 30]);
     assert_eq!(edges(sizes, &samples, [0, 1, 0]), [21, 25, 26, 29, 30]);
     for start in [[0, 0, 0], [1, 1, 0]] {
-        assert_eq!(counts(sizes, &samples, Some(start), [5, 3]), [5, 0, 0, 0]);
+        assert_eq!(counts(sizes, &samples, Start::Cube(start), [5, 3]), [5, 0, 0, 0]);
     }
-    assert_eq!(counts(sizes, &samples, None, [5, 3]), [0, 5, 3, 1]);
+    assert_eq!(counts(sizes, &samples, Start::Lowest, [5, 3]), [0, 5, 3, 1]);
 }
 
 #[test]
@@ -205,19 +207,49 @@ fn every_corner_of_a_cube_is_looked_at() {
     for filled in 0..8 {
         for aired in (0..8).filter(|corner| *corner != filled) {
             let samples = with_fill([2, 2, 2], &[air(aired)], &[air(filled)]);
-            for start in [None, Some([0, 0, 0])] {
+            for start in [Start::Unnamed, Start::Lowest, Start::Cube([0, 0, 0])] {
                 assert_eq!(counts([2, 2, 2], &samples, start, [9, 9]), [5, 0, 0, 0]);
             }
         }
     }
-    assert_eq!(counts([2, 2, 2], &[FILL as i16; 8], None, [9, 9]), [5, 0, 0, 0]);
+    assert_eq!(counts([2, 2, 2], &[FILL as i16; 8], Start::Lowest, [9, 9]), [5, 0, 0, 0]);
+}
+
+/// Document 02 (iv): the lowest crossed cube with none of its six faces in the bounds.
+#[test]
+fn starts_that_nobody_names() {
+    let of = |sizes: [usize; 3], air: &[[usize; 3]], start| counts(sizes, &with_air(sizes, air), start, [99, 99]);
+    for start in [Start::Unnamed, Start::Lowest, Start::Cube([1, 1, 1])] {
+        assert_eq!(of([4; 3], &[[1; 3]], start), [0, 14, 24, 8]);
+    }
+    assert_eq!(of([3; 3], &[[1; 3]], Start::Unnamed), [5, 0, 0, 0]);
+    assert_eq!(of([3; 3], &[[1; 3]], Start::Lowest), [0, 14, 24, 8]);
+    assert_eq!(of([4; 3], &[[0; 3]], Start::Unnamed), [5, 0, 0, 0]);
+    assert_eq!(of([4; 3], &[[0; 3]], Start::Lowest), [0, 3, 1, 1]);
+    let tray = [[0, 0, 0], [4, 2, 2]];
+    assert_eq!(of([6, 4, 4], &tray, Start::Unnamed), [0, 14, 24, 8]);
+    assert_eq!(of([6, 4, 4], &tray, Start::Cube([3, 1, 1])), [0, 14, 24, 8]);
+    assert_eq!(of([6, 4, 4], &tray, Start::Lowest), [0, 3, 1, 1]);
+    // a cube with a face in the bounds on one axis alone, at its low or its high end
+    for axis in 0..3 {
+        for end in [0, 3] {
+            let mut air = [1; 3];
+            air[axis] = end;
+            assert_eq!(of([4; 3], &[air], Start::Unnamed), [5, 0, 0, 0]);
+        }
+        let mut thin = [4; 3];
+        thin[axis] = 3;
+        assert_eq!(of(thin, &[[1; 3]], Start::Unnamed), [5, 0, 0, 0]);
+    }
+    // the cube inside holds the fill
+    assert_eq!(counts([4; 3], &with_fill([4; 3], &[[1; 3]], &[[2; 3]]), Start::Unnamed, [99, 99]), [5, 0, 0, 0]);
 }
 
 #[test]
 fn one_above_the_fill_is_a_sample() {
     let mut samples = [-32_767; 8];
     samples[0] = 1;
-    assert_eq!(counts([2, 2, 2], &samples, None, [3, 1]), [0, 3, 1, 1]);
+    assert_eq!(counts([2, 2, 2], &samples, Start::Lowest, [3, 1]), [0, 3, 1, 1]);
 }
 
 /// Those with p = -32768 are true of the formula only: no such sample is an end of a sheet's edge.

@@ -6,7 +6,7 @@ extern "C" {
     #[rustfmt::skip]
     fn malxuqeed_build(
         sizes: Sizes,
-        named: bool,
+        from: u32,
         start: Place,
         samples: *const i16,
         samples_len: usize,
@@ -45,7 +45,7 @@ extern "C" {
     #[rustfmt::skip]
     fn malxuqeed_check(
         sizes: Sizes,
-        named: bool,
+        from: u32,
         start: Place,
         samples: *const i16,
         samples_len: usize,
@@ -90,10 +90,11 @@ extern "C" {
 #[rustfmt::skip]
 pub fn build(lattice: Lattice, vertices: &mut [i32], triangles: &mut [u32], work: Work) -> Built {
     let Lattice { sizes, start, samples } = lattice;
+    let (from, cube) = start.told();
     let Work { words, waiting, slots } = work;
     unsafe {
         malxuqeed_build(
-            sizes, start.is_some(), start.unwrap_or_default(), samples.as_ptr(), samples.len(),
+            sizes, from, cube, samples.as_ptr(), samples.len(),
             vertices.as_mut_ptr(), vertices.len(), triangles.as_mut_ptr(), triangles.len(),
             words.as_mut_ptr(), words.len(), waiting.as_mut_ptr(), waiting.len(), slots.as_mut_ptr(), slots.len(),
         )
@@ -123,10 +124,11 @@ pub fn read(bytes: &[u8], vertices: &mut [i32], triangles: &mut [u32]) -> Got {
 #[rustfmt::skip]
 pub fn check(lattice: Lattice, bytes: &[u8], work: Work) -> Verdict {
     let Lattice { sizes, start, samples } = lattice;
+    let (from, cube) = start.told();
     let Work { words, waiting, slots } = work;
     unsafe {
         malxuqeed_check(
-            sizes, start.is_some(), start.unwrap_or_default(), samples.as_ptr(), samples.len(),
+            sizes, from, cube, samples.as_ptr(), samples.len(),
             bytes.as_ptr(), bytes.len(),
             words.as_mut_ptr(), words.len(), waiting.as_mut_ptr(), waiting.len(), slots.as_mut_ptr(), slots.len(),
         )

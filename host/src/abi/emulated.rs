@@ -147,8 +147,8 @@ fn call(asked: [usize; ASKED], slices: &mut [&mut dyn Lent]) -> [usize; ANSWERED
 }
 
 fn about(function: usize, lattice: &Lattice) -> [usize; ASKED] {
-    let (Sizes { nx, ny, nz }, start) = (lattice.sizes, lattice.start.unwrap_or_default());
-    [function, nx, ny, nz, lattice.start.is_some().into(), start.x, start.y, start.z]
+    let (Sizes { nx, ny, nz }, (from, cube)) = (lattice.sizes, lattice.start.told());
+    [function, nx, ny, nz, from as usize, cube.x, cube.y, cube.z]
 }
 
 pub fn build(mut lattice: Lattice, mut vertices: &mut [i32], mut triangles: &mut [u32], mut work: Work) -> Built {

@@ -78,11 +78,33 @@ pub struct Loaded {
     pub facets: usize,
 }
 
-/// A lattice as a caller gives it: sizes, samples and perhaps a start cube. Nothing is assumed of them.
+/// Where a sheet starts (document 02 (iv)).
+#[derive(Clone, Copy, Debug, Default, PartialEq, Eq)]
+pub enum Start {
+    /// None is named: the lowest crossed cube with none of its six faces in the lattice's bounds.
+    #[default]
+    Unnamed,
+    /// The lowest crossed cube, by name.
+    Lowest,
+    Cube(Place),
+}
+
+impl Start {
+    /// As the library takes it: the number that tells the case, and the place of a cube.
+    fn told(self) -> (u32, Place) {
+        match self {
+            Start::Unnamed => (0, Place::default()),
+            Start::Lowest => (1, Place::default()),
+            Start::Cube(place) => (2, place),
+        }
+    }
+}
+
+/// A lattice as a caller gives it: sizes, a start and samples. Nothing is assumed of them.
 #[derive(Clone, Copy, Debug)]
 pub struct Lattice<'a> {
     pub sizes: Sizes,
-    pub start: Option<Place>,
+    pub start: Start,
     pub samples: &'a [i16],
 }
 

@@ -18,17 +18,20 @@ pub struct Entry {
 pub type Line = Result<Entry, String>;
 
 /// What a line should look like.
-const SHAPE: &str = "is not VOLUME SHEET, VOLUME SHEET X,Y,Z or VOLUME SHEET auto";
+const SHAPE: &str = "is not VOLUME SHEET, VOLUME SHEET X,Y,Z or VOLUME SHEET with auto, lowest or default";
 
 fn name(bytes: &[u8]) -> PathBuf {
     PathBuf::from(OsStr::from_bytes(bytes))
 }
 
-/// A start as X,Y,Z or X Y Z; nothing, or auto, leaves it to the sheet.
+/// A start as X,Y,Z or X Y Z; lowest, the lowest crossed cube; default, what a build takes where none is named; nothing, or auto, leaves it
+/// to the sheet.
 fn start(text: &[u8]) -> Option<Start> {
     let text: Vec<u8> = text.trim_ascii().iter().map(|&byte| if byte == b' ' { b',' } else { byte }).collect();
     match &text[..] {
         b"" | b"auto" => Some(Start::Auto),
+        b"lowest" => Some(Start::Lowest),
+        b"default" => Some(Start::Unnamed),
         text => triple(text).map(|[x, y, z]| Start::Cube(Place { x, y, z })),
     }
 }
@@ -84,7 +87,11 @@ fn rows(bytes: &[u8]) -> Vec<Line> {
     let row = |(number, fields): &(usize, Vec<Vec<u8>>)| {
         let field = |column: usize| fields.get(column).map(Vec::as_slice).unwrap_or_default();
         let [volume, sheet, text] = columns.map(field);
-        let wrong = || format!("row at line {number} has no volume, no sheet, or a start that is not X Y Z");
+        let wrong = || {
+            format!(
+                "row at line {number} has no volume, no sheet, or a start that is not X Y Z, auto, lowest or default"
+            )
+        };
         if volume.is_empty() || sheet.is_empty() {
             return Err(wrong());
         }
@@ -153,6 +160,8 @@ mod tests {
             some("a", "b", Start::Auto),
         ];
         assert_eq!(found(text, "m.txt"), [&wanted[..], &[None, None]].concat());
+        let words = [some("a", "b", Start::Lowest), some("a", "b", Start::Unnamed), None];
+        assert_eq!(found(b"a b lowest\na\tb\tdefault\na b highest", "m"), words);
         assert_eq!(lines(b"\n\na", Path::new("m")), [Err(format!("line 3 {SHAPE}"))]);
         assert_eq!(found(b"", "m"), []);
     }
@@ -167,5 +176,9 @@ mod tests {
         assert_eq!(found(b"a,b,\"1,2,3\"\n", "m.csv"), [some("a", "b", CUBE)]);
         assert_eq!(found(b"volume,sheet\n\"a,b\n", "m.csv"), [None]);
         assert_eq!(found(b"volume,sheet\n", "m.csv"), []);
+        assert_eq!(
+            found(b"a,b, lowest\na,b,default", "m.csv"),
+            [Start::Lowest, Start::Unnamed].map(|s| some("a", "b", s))
+        );
     }
 }

@@ -31,12 +31,13 @@ pub static COMMAND: Command = Command {
     text: "\
 Checks every sheet file that a manifest names. A line of the manifest has a volume, its sheet and perhaps the start:
 
-    VOLUME SHEET [X,Y,Z]
+    VOLUME SHEET [X,Y,Z|lowest|default|auto]
 
 Where a line holds a tab, tabs part its fields, so that names may hold spaces; else spaces do. Empty lines and lines that \
 start with # are passed over. A manifest may also be a CSV file: one whose name ends in .csv, or whose first line names the \
 columns volume, sheet and perhaps start. Without a start, or with auto, it is taken from the sheet itself (see check --start \
-auto). Names are taken from the folder of the manifest.
+auto); lowest and default stand for check --start lowest and for check without --start. Names are taken from the folder of \
+the manifest.
 
 Each line gets a verdict on standard output: 'accepted', 'refused N PLACE' or 'unread', then volume, sheet and the start that \
 was taken. A summary with the count of each number follows; what the numbers mean is on standard error. A file that cannot be \

@@ -1,4 +1,4 @@
-use crate::abi::Place;
+use crate::abi::Start;
 use crate::args::Given;
 use crate::command::{Command, FORCE, START};
 use crate::cubes::Cubes;
@@ -21,6 +21,10 @@ Meshes the surface that passes through the start cube and writes it to the sheet
 output has the counts of vertices, triangles and visited cubes: V T CUBES. A refusal prints 'refused N', and SHEET stays \
 as it was.
 
+Without --start the start is the lowest cube that a surface crosses with none of its six faces in the volume's bounds, so not the \
+tray's floor. Where only cubes at the bounds are crossed the answer is 'refused 5', and a sentence names the lowest of them, \
+which --start lowest takes.
+
 Where the volume has further surfaces, a line on standard error says how many crossed cubes are not on this sheet, and \
 names the start of the next one.
 
@@ -31,11 +35,11 @@ as SHEET the file goes to standard output, and the counts to standard error.",
 
 fn run(given: &Given, streams: &mut Streams) -> Result<Ended, Failure> {
     let (from, to) = (given.name(0), given.name(1));
-    let start = given.start(&START)?.named();
+    let start = given.start(&START)?;
     files::apart(&[from], &[to])?;
     let volume = Volume::read(from, streams)?;
-    let about = About { volume: Some((from, &volume)), start, ..About::default() };
-    let (built, sheet) = Sheet::build(&volume, start, &mut Room::default());
+    let about = About { volume: Some((from, &volume)), start: start.named(), ..About::default() };
+    let (built, sheet) = Sheet::build(&volume, start.given(), &mut Room::default());
     if built.number != 0 {
         return refuse(built.number, &about, streams);
     }
@@ -46,17 +50,17 @@ fn run(given: &Given, streams: &mut Streams) -> Result<Ended, Failure> {
     files::put(to, &bytes, given.has(&FORCE), streams)?;
     let counts = format!("{} {} {}", built.vertices, built.triangles, built.cubes);
     files::answer(to, &counts, streams)?;
-    if let Some(rest) = rest(&volume, start) {
+    if let Some(rest) = rest(&volume, start.given()) {
         streams.say(&rest);
     }
     Ok(Ended::Well)
 }
 
 /// What the volume holds besides the sheet from a start, in a sentence.
-fn rest(volume: &Volume, start: Option<Place>) -> Option<String> {
+fn rest(volume: &Volume, start: Start) -> Option<String> {
     let cubes = Cubes::of(volume)?;
     let (pieces, of) = cubes.pieces();
-    let own = of[cubes.number(start.or_else(|| cubes.lowest_crossed())?)]? as usize;
+    let own = of[cubes.number(cubes.start(start)?)]? as usize;
     let others = pieces.len() - 1;
     if others == 0 {
         return None;

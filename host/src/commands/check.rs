@@ -15,8 +15,8 @@ pub static COMMAND: Command = Command {
     options: &[START_OR_AUTO],
     text: "\
 Checks that the sheet file SHEET holds exactly the sheet of VOLUME from the start cube: each vertex and each triangle \
-once, in any order, a triangle from any corner. Without --start that is the sheet from the lowest cube that the surface \
-crosses.
+once, in any order, a triangle from any corner. Without --start that is the cube that build takes where none is named: the \
+lowest cube that a surface crosses with none of its six faces in the volume's bounds.
 
 The first line of standard output is 'accepted', or 'refused N PLACE' with the number of the test that failed and the \
 first record or triangle that failed it (0 where the number speaks of no record). With --start auto a second line, \

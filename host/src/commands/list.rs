@@ -1,5 +1,5 @@
-use crate::args::Given;
-use crate::command::{Command, START};
+use crate::args::{Given, Start};
+use crate::command::{Command, START_OF_LIST};
 use crate::explain::About;
 use crate::failure::Failure;
 use crate::lines;
@@ -14,7 +14,7 @@ pub static COMMAND: Command = Command {
     name: "list",
     brief: "print the sheet of a volume",
     names: &["[VOLUME]"],
-    options: &[START],
+    options: &[START_OF_LIST],
     text: "\
 Prints the sheet of a volume: a line V T CUBES, a line 'v EDGE X Y Z' for each vertex, a line 't A B C' for each \
 triangle. Coordinates are in 1/65536 of a sample step. Without VOLUME, or with -, the volume is read from standard input. \
@@ -24,11 +24,18 @@ A refusal prints 'refused N'.",
 
 fn run(given: &Given, streams: &mut Streams) -> Result<Ended, Failure> {
     let from = given.maybe(0).unwrap_or(Path::new("-"));
-    let start = given.start(&START)?.named();
+    let start = match given.start(&START_OF_LIST)? {
+        Start::Unnamed => Start::Lowest,
+        named => named,
+    };
     let volume = Volume::read(from, streams)?;
-    let (built, sheet) = Sheet::build(&volume, start, &mut Room::default());
+    let (built, sheet) = Sheet::build(&volume, start.given(), &mut Room::default());
     if built.number != 0 {
-        return refuse(built.number, &About { volume: Some((from, &volume)), start, ..About::default() }, streams);
+        return refuse(
+            built.number,
+            &About { volume: Some((from, &volume)), start: start.named(), ..About::default() },
+            streams,
+        );
     }
     streams.print(format_args!("{} {} {}", built.vertices, built.triangles, built.cubes))?;
     lines::print(streams.output, &sheet.vertices, &sheet.triangles).map_err(Failure::output)?;

@@ -5,7 +5,7 @@ use crate::cases::{content, Case};
 use crate::damage;
 use crate::fill::{self, FILL};
 use crate::random::Random;
-use second::{serialize, Content, Lattice};
+use second::{serialize, Content, Lattice, Start};
 use std::io;
 use std::path::Path;
 
@@ -51,7 +51,7 @@ fn scan(random: &mut Random, ring: bool) -> Case {
         bubbles.iter().map(|(centre, radius)| radius - far(centre)).fold(f64::NEG_INFINITY, f64::max)
     };
     let samples = (0..nx * ny * nz).map(|n| (2000.0 * depth(n).max(-8.0) + 60.0 * random.unit()) as i16).collect();
-    let mut scan = Case { sizes, start: None, samples };
+    let mut scan = Case { sizes, start: Start::Lowest, samples };
     if ring {
         fill::ring(&mut scan, 2, 6.2);
     }
@@ -105,14 +105,15 @@ pub fn kinds(random: &mut Random) -> Vec<Kind> {
 /// The sheet that an archive has of a scan from a start, and that start.
 fn sheet(random: &mut Random, scan: &Case, kind: Kind) -> (Content, [usize; 3]) {
     loop {
-        let mut case = Case { start: Some(crossed(random, scan)), ..scan.clone() };
+        let start = crossed(random, scan);
+        let mut case = Case { start: Start::Cube(start), ..scan.clone() };
         if kind == Kind::Strange {
             let seen = case.samples.iter_mut().filter(|sample| **sample != FILL);
             seen.for_each(|sample| *sample = sample.saturating_add(90));
         }
         let sheet = content(&case);
         // the start may not be crossed in the other scan; and a small sheet may be sorted by position as it is
-        if let (Some(sheet), Some(start)) = (sheet, case.start) {
+        if let Some(sheet) = sheet {
             let mut sorted = sheet.clone();
             sort(&mut sorted);
             if kind != Kind::Sorted || sorted != sheet {

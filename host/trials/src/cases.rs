@@ -1,21 +1,21 @@
 //! Random lattices, starts and lent room.
 
 use crate::random::Random;
-use host::abi::{Lattice, Place, Sizes, Work};
-use second::Volume;
+use host::abi::{self, Lattice, Place, Sizes, Work};
+use second::{Start, Volume};
 
 /// A lattice as a caller might give it.
 #[derive(Clone, Debug)]
 pub struct Case {
     pub sizes: [usize; 3],
-    pub start: Option<[usize; 3]>,
+    pub start: Start,
     pub samples: Vec<i16>,
 }
 
 impl Case {
     /// As the library takes it.
     pub fn lattice(&self) -> Lattice<'_> {
-        Lattice { sizes: sizes(self.sizes), start: self.start.map(place), samples: &self.samples }
+        Lattice { sizes: sizes(self.sizes), start: given(self.start), samples: &self.samples }
     }
 
     /// As the second mesher takes it.
@@ -32,6 +32,24 @@ impl Case {
 
 pub fn sizes([nx, ny, nz]: [usize; 3]) -> Sizes {
     Sizes { nx, ny, nz }
+}
+
+/// A start as the library takes it.
+pub fn given(start: Start) -> abi::Start {
+    match start {
+        Start::Unnamed => abi::Start::Unnamed,
+        Start::Lowest => abi::Start::Lowest,
+        Start::Cube(cube) => abi::Start::Cube(place(cube)),
+    }
+}
+
+/// A start as second.c takes it.
+pub fn in_c(start: Start) -> baseline::Start {
+    match start {
+        Start::Unnamed => baseline::Start::Unnamed,
+        Start::Lowest => baseline::Start::Lowest,
+        Start::Cube(cube) => baseline::Start::Cube(cube.map(|v| v as u16)),
+    }
 }
 
 pub fn place([x, y, z]: [usize; 3]) -> Place {
@@ -130,12 +148,13 @@ pub fn random_samples(random: &mut Random, sizes: [usize; 3]) -> Vec<i16> {
     samples
 }
 
-pub fn random_start(random: &mut Random, sizes: [usize; 3]) -> Option<[usize; 3]> {
+pub fn random_start(random: &mut Random, sizes: [usize; 3]) -> Start {
     match random.below(20) {
-        0..=7 => None,
-        8 => Some([(); 3].map(|_| random.pick(&[0, 1, 62, 63, 64, usize::MAX, usize::MAX - 1, 1 << 32]))),
-        9 => Some(sizes.map(|axis| axis.saturating_sub(1 + random.below(2)))),
-        _ => Some(sizes.map(|axis| random.below(axis.clamp(2, 64) - 1))),
+        0..=3 => Start::Unnamed,
+        4..=7 => Start::Lowest,
+        8 => Start::Cube([(); 3].map(|_| random.pick(&[0, 1, 62, 63, 64, usize::MAX, usize::MAX - 1, 1 << 32]))),
+        9 => Start::Cube(sizes.map(|axis| axis.saturating_sub(1 + random.below(2)))),
+        _ => Start::Cube(sizes.map(|axis| random.below(axis.clamp(2, 64) - 1))),
     }
 }
 
@@ -143,12 +162,23 @@ pub fn case(random: &mut Random) -> Case {
     let sizes = random_sizes(random);
     // A start drawn blindly is often not crossed, which is refusal 5; so a few are drawn and a good one is kept.
     let samples = random_samples(random, sizes);
-    let mut case = Case { sizes, start: None, samples };
+    let mut case = Case { sizes, start: Start::Lowest, samples };
     for _ in 0..4 {
         case.start = random_start(random, sizes);
-        if case.start.is_none() || sheet_counts(&case).number == 0 {
+        if case.start == Start::Lowest || sheet_counts(&case).number == 0 {
             break;
         }
+    }
+    case
+}
+
+/// A lattice whose start is not named, of axes that have a cube or two off the bounds, or none; now and then with fill.
+pub fn unnamed_case(random: &mut Random) -> Case {
+    let sizes = [(); 3].map(|_| 3 + random.below(5));
+    let samples = random_samples(random, sizes);
+    let mut case = Case { sizes, start: Start::Unnamed, samples };
+    if random.once_in(3) {
+        crate::fill::grains(random, &mut case, 30);
     }
     case
 }

@@ -2,7 +2,7 @@
 
 use crate::cases::{self, random_samples, random_sizes, random_start, Case};
 use crate::random::Random;
-use second::{Lattice, Point};
+use second::{Lattice, Point, Start};
 
 /// What the scanner writes where it sees nothing.
 pub const FILL: i16 = i16::MIN;
@@ -138,7 +138,7 @@ fn volume(random: &mut Random) -> Case {
         sizes = sizes.map(|axis| axis + random.below(3));
     }
     let samples = random_samples(random, sizes);
-    let mut case = Case { sizes, start: None, samples };
+    let mut case = Case { sizes, start: Start::Lowest, samples };
     for _ in 0..1 + random.below(2) {
         paint(random, &mut case);
     }
@@ -149,7 +149,8 @@ fn volume(random: &mut Random) -> Case {
     case
 }
 
-/// A lattice with fill, as a caller might give it. Its start is not named, or crossed, or holds the fill, or is any.
+/// A lattice with fill, as a caller might give it. Its start is not named, or the lowest, or crossed, or holds the fill, or
+/// is any.
 pub fn case(random: &mut Random) -> Case {
     let mut case = volume(random);
     // fill often leaves nothing that is crossed, which is refusal 5; so a few are drawn
@@ -160,10 +161,11 @@ pub fn case(random: &mut Random) -> Case {
         case = volume(random);
     }
     case.start = match random.below(12) {
-        0 | 1 => filled_cube(random, &case),
+        0 | 1 => filled_cube(random, &case).map_or(Start::Lowest, Start::Cube),
         2 | 3 => random_start(random, case.sizes),
-        4..=7 => None,
-        _ => crossed_cube(random, &case),
+        4 | 5 => Start::Unnamed,
+        6 | 7 => Start::Lowest,
+        _ => crossed_cube(random, &case).map_or(Start::Lowest, Start::Cube),
     };
     case
 }

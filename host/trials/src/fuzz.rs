@@ -33,10 +33,12 @@ pub type Counts = BTreeMap<(&'static str, usize), u64>;
 
 type Trial = (&'static str, fn(&mut Random) -> usize);
 
-const TRIALS: [Trial; 14] = [
+const TRIALS: [Trial; 16] = [
     ("build", hold::build),
     ("build, fill", hold::build_filled),
     ("check", hold::check),
+    ("build, no start", hold::build_unnamed),
+    ("check, no start", hold::check_unnamed),
     ("tool", tooled::round),
     ("check, fill", hold::check_filled),
     ("read", hold::read),

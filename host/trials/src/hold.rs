@@ -1,11 +1,11 @@
 //! One random case of each function, the library's answer and all lent memory held against the second mesher's.
 //! A difference panics with the case.
 
-use crate::cases::{case, content, output_room, sheet_counts, sizes, Case, Guarded, Lent};
+use crate::cases::{case, content, output_room, sheet_counts, sizes, unnamed_case, Case, Guarded, Lent};
 use crate::random::Random;
 use crate::{damage, fill, pairing};
 use host::abi::{self, Built, Got, Verdict, Wrote};
-use second::Content;
+use second::{Content, Start};
 
 fn built(b: second::Built) -> Built {
     Built { number: b.number, vertices: b.vertices, triangles: b.triangles, cubes: b.cubes }
@@ -34,6 +34,11 @@ pub fn build(random: &mut Random) -> usize {
 
 pub fn build_filled(random: &mut Random) -> usize {
     let case = fill::case(random);
+    build_of(random, &case)
+}
+
+pub fn build_unnamed(random: &mut Random) -> usize {
+    let case = unnamed_case(random);
     build_of(random, &case)
 }
 
@@ -80,13 +85,22 @@ pub fn check_filled(random: &mut Random) -> usize {
             fill::grains(random, &mut grain, rare);
             grain
         }
-        3 => Case { start: None, ..about.clone() },
+        3 => Case { start: random.pick(&[Start::Unnamed, Start::Lowest]), ..about.clone() },
         _ => about.clone(),
     };
     if content(&made).is_none() {
         // no sheet is there to be made: what was made before the fill was known
         made = fill::unfilled(&about, -32_767);
     }
+    let sheet = content(&made).unwrap_or_else(|| damage::free_content(random));
+    let file = damage::file(random, &sheet);
+    check_of(random, &about, &file)
+}
+
+/// A volume whose start is not named, and a file of the sheet from there, or from the lowest crossed cube.
+pub fn check_unnamed(random: &mut Random) -> usize {
+    let about = unnamed_case(random);
+    let made = if random.once_in(3) { Case { start: Start::Lowest, ..about.clone() } } else { about.clone() };
     let sheet = content(&made).unwrap_or_else(|| damage::free_content(random));
     let file = damage::file(random, &sheet);
     check_of(random, &about, &file)

@@ -82,7 +82,7 @@ mod tests {
     fn middle() -> Case {
         let mut samples = vec![-1; 27];
         samples[13] = 1;
-        Case { sizes: [3; 3], start: None, samples }
+        Case { sizes: [3; 3], start: second::Start::Lowest, samples }
     }
 
     #[test]

@@ -14,6 +14,7 @@ use host::failure::Failure;
 use host::streams::Streams;
 use host::tool::run;
 use second::floats::Level;
+use second::Start;
 use std::collections::BTreeMap;
 use std::ffi::OsString;
 use std::fs;
@@ -21,7 +22,8 @@ use std::io::Cursor;
 use std::os::unix::ffi::OsStringExt;
 use std::path::Path;
 
-type Start = Option<[usize; 3]>;
+/// The start cube that an answer tells of.
+type Told = Option<[usize; 3]>;
 
 /// What must come of a command.
 struct Expected {
@@ -43,8 +45,8 @@ fn expected(status: u8, output: impl Into<String>) -> Expected {
     Expected { status, output: Output::Exact(output.into()), written: None }
 }
 
-/// What a line of a manifest asks for: volume, sheet, start.
-type Entry = (&'static str, &'static str, Start);
+/// What a line of a manifest asks for: volume, sheet, and the start, or nothing where it is left to the sheet.
+type Entry = (&'static str, &'static str, Option<Start>);
 
 /// A manifest, and its lines with what each asks for; a wrong line asks for nothing. Beside it a file of floats.
 struct Manifest {
@@ -87,12 +89,16 @@ fn manifest(random: &mut Random, start: Start) -> Manifest {
     let mut manifest = Manifest { text: b"# a manifest\n\n".to_vec(), lines: Vec::new(), floats };
     for _ in 0..random.below(6) {
         let (volume, sheet) = (volume_name(random), sheet_name(random));
-        let (line, entry) = match random.below(8) {
+        let (line, entry) = match random.below(10) {
             0 => (random.pick(&["one", "a b c d", "a b 1,2", "v.raw s.sheet -1,0,0"]).to_string(), None),
             1..=3 => (format!("{volume}\t{sheet}"), Some((volume, sheet, None))),
+            4 => (format!("{volume}\t{sheet}\tlowest"), Some((volume, sheet, Some(Start::Lowest)))),
+            5 => (format!("{volume}\t{sheet}\tdefault"), Some((volume, sheet, Some(Start::Unnamed)))),
             _ => match start {
-                Some([x, y, z]) => (format!("{volume}\t{sheet}\t{x},{y},{z}"), Some((volume, sheet, start))),
-                None => ("v.raw s.sheet".to_string(), Some(("v.raw", "s.sheet", None))),
+                Start::Cube([x, y, z]) => {
+                    (format!("{volume}\t{sheet}\t{x},{y},{z}"), Some((volume, sheet, Some(start))))
+                }
+                Start::Unnamed | Start::Lowest => ("v.raw s.sheet".to_string(), Some(("v.raw", "s.sheet", None))),
             },
         };
         manifest.text.extend(line.bytes());
@@ -136,14 +142,24 @@ fn prepare(random: &mut Random, about: &Case) -> std::io::Result<Manifest> {
 }
 
 fn random_start_word(random: &mut Random, start: Start) -> String {
-    if random.once_in(6) {
-        return "auto".into();
+    if random.once_in(5) {
+        return random.pick(&["auto", "lowest"]).into();
     }
     match start {
-        Some([x, y, z]) if !random.once_in(8) => format!("{x},{y},{z}"),
-        None if random.once_in(2) => "0,0,0".into(),
+        Start::Cube([x, y, z]) if !random.once_in(8) => format!("{x},{y},{z}"),
+        Start::Unnamed | Start::Lowest if random.once_in(2) => "0,0,0".into(),
         _ => random
-            .pick(&["0,0,0", "1,0,0", "63,63,63", "99999999999999999999999,0,0", "1,1", "", "a,b,c", "-1,0,0"])
+            .pick(&[
+                "0,0,0",
+                "1,0,0",
+                "63,63,63",
+                "99999999999999999999999,0,0",
+                "1,1",
+                "",
+                "a,b,c",
+                "-1,0,0",
+                "default",
+            ])
             .into(),
     }
 }
@@ -271,8 +287,8 @@ fn verdict(volume: &[u8], sheet: &[u8], start: Start) -> (usize, usize) {
 
 /// The verdict where the start is left to the sheet, and that start: every crossed cube is tried. A file is accepted if it
 /// is from one of them; else the refusal is that of reading, or of some start.
-fn automatic(volume: &[u8], sheet: &[u8]) -> Vec<(usize, usize, Start)> {
-    let case = match parsed(volume, None) {
+fn automatic(volume: &[u8], sheet: &[u8]) -> Vec<(usize, usize, Told)> {
+    let case = match parsed(volume, Start::Lowest) {
         Ok(case) => case,
         Err(number) => return vec![(number, 0, None)],
     };
@@ -282,15 +298,15 @@ fn automatic(volume: &[u8], sheet: &[u8]) -> Vec<(usize, usize, Start)> {
     let lattice = second::Lattice::new(case.sizes, &case.samples).expect("sizes and samples fit");
     let starts = lattice.cubes().filter(|cube| lattice.crossed(*cube)).map(|cube| [cube.x, cube.y, cube.z]);
     let starts: Vec<[usize; 3]> = starts.map(|cube| cube.map(|v| v as usize)).collect();
-    let of = |start: Start| {
-        let (number, place) = verdict(volume, sheet, start);
-        (number, place, start)
+    let of = |start: [usize; 3]| {
+        let (number, place) = verdict(volume, sheet, Start::Cube(start));
+        (number, place, Some(start))
     };
-    let tried: Vec<_> = starts.into_iter().map(|start| of(Some(start))).collect();
+    let tried: Vec<_> = starts.into_iter().map(of).collect();
     if tried.iter().any(|(number, ..)| *number == 0) {
         return tried.into_iter().filter(|(number, ..)| *number == 0).collect();
     }
-    let (number, place, _) = of(None);
+    let (number, place) = verdict(volume, sheet, Start::Lowest);
     tried.into_iter().chain([(number, place, None)]).collect()
 }
 
@@ -308,8 +324,9 @@ fn writable(path: &Path) -> bool {
 /// The start that is asked for; nothing where the option is wrong.
 fn asked(given: &Given, auto: bool) -> Option<Result<Start, ()>> {
     match given.start(if auto { &START_OR_AUTO } else { &START }) {
-        Ok(Asked::Unnamed) => Some(Ok(None)),
-        Ok(Asked::Cube(place)) => Some(Ok(Some([place.x, place.y, place.z]))),
+        Ok(Asked::Unnamed) => Some(Ok(Start::Unnamed)),
+        Ok(Asked::Lowest) => Some(Ok(Start::Lowest)),
+        Ok(Asked::Cube(place)) => Some(Ok(Start::Cube([place.x, place.y, place.z]))),
         Ok(Asked::Auto) => Some(Err(())),
         Err(_) => None,
     }
@@ -415,7 +432,7 @@ fn expect_convert(command: &Command, given: &Given, input: &[u8]) -> Expected {
     match second::floats::file(&file, sizes, level, scale) {
         Ok((sizes, samples)) => {
             let [nx, ny, nz] = sizes;
-            expect_written(to, Case { sizes, start: None, samples }.file(), format!("{nx} {ny} {nz}\n"))
+            expect_written(to, Case { sizes, start: Start::Unnamed, samples }.file(), format!("{nx} {ny} {nz}\n"))
         }
         Err(refused) => expected(1, format!("refused {} {}\n", refused.number, refused.place)),
     }
@@ -436,7 +453,7 @@ fn expect_show(sheet: &Path, input: &[u8]) -> Expected {
 }
 
 /// A line that the audit may print, by its beginning.
-fn audit_line((number, place, start): (usize, usize, Start), volume: &str, sheet: &str) -> String {
+fn audit_line((number, place, start): (usize, usize, Told), volume: &str, sheet: &str) -> String {
     let verdict = if number == 0 { "accepted".to_string() } else { format!("refused {number} {place}") };
     let start = start.map_or(String::new(), |[x, y, z]| format!(" {x},{y},{z}"));
     format!("{verdict} {volume} {sheet}{start}")
@@ -453,9 +470,10 @@ fn expect_audit(manifest: &Manifest) -> Expected {
         match files {
             Some((Ok(volume), Ok(sheet), start, volume_name, sheet_name)) => {
                 let may = match start {
-                    Some(_) => {
+                    Some(start) => {
                         let (number, place) = verdict(&volume, &sheet, start);
-                        vec![(number, place, start)]
+                        let told = if let Start::Cube(cube) = start { Some(cube) } else { None };
+                        vec![(number, place, told)]
                     }
                     None => automatic(&volume, &sheet),
                 };
@@ -489,7 +507,7 @@ fn expect_check(volume: &Path, sheet: &Path, start: Result<Start, ()>, input: &[
         Err(()) => {
             let may = automatic(&volume, &sheet);
             let status = u8::from(may[0].0 != 0);
-            let text = |(number, place, start): (usize, usize, Start)| {
+            let text = |(number, place, start): (usize, usize, Told)| {
                 let start = start.map_or(String::new(), |[x, y, z]| format!("start {x},{y},{z}\n"));
                 format!("{}\n{start}", first(number, place))
             };
@@ -513,6 +531,7 @@ fn expect(parsed: &Result<(&'static Command, Given), Failure>, input: &[u8], man
             let file = bytes_of(given.maybe(0).unwrap_or(Path::new("-")), input);
             match (asked(given, false), file) {
                 (Some(Ok(start)), Ok(file)) => {
+                    let start = if start == Start::Unnamed { Start::Lowest } else { start };
                     let text = second::listing(&file, start);
                     expected(u8::from(text.starts_with("refused")), text)
                 }

@@ -3,6 +3,7 @@
 use crate::cases::Case;
 use crate::fill::{self, FILL};
 use crate::random::Random;
+use second::Start;
 
 const SIZES: [usize; 3] = [64, 64, 40];
 
@@ -72,7 +73,7 @@ pub fn volume() -> Case {
             }
         }
     }
-    let mut tray = Case { sizes: SIZES, start: None, samples };
+    let mut tray = Case { sizes: SIZES, start: Start::Lowest, samples };
     fill::ring(&mut tray, 2, VIEW);
     tray
 }
@@ -132,7 +133,7 @@ mod tests {
         let mut edges = BTreeSet::new();
         let mut all = 0;
         for piece in &pieces {
-            volume.start = Some(piece.start);
+            volume.start = Start::Cube(piece.start);
             let sheet = content(&volume).expect("the start is crossed");
             edges.extend(sheet.records.iter().map(|record| record[0]));
             all += sheet.records.len();
@@ -149,7 +150,7 @@ mod tests {
         let surfaces = |case: &Case| pieces(case).iter().map(|piece| piece.start).collect::<Vec<_>>();
         assert_eq!(surfaces(&case), surfaces(&volume));
         for start in surfaces(&volume) {
-            let from = |case: &Case| content(&Case { start: Some(start), ..case.clone() });
+            let from = |case: &Case| content(&Case { start: Start::Cube(start), ..case.clone() });
             assert_eq!(from(&case), from(&volume));
         }
     }

@@ -1,9 +1,11 @@
 //! The volumes of the benchmark. Three of 64x64x64 samples: one pore; a tray with walls at the bounds; noise. The same with fill. Small
-//! surfaces in as large a lattice: a speck and balls. Balls and noise on lattices that grow.
+//! surfaces in as large a lattice: a speck and balls. Balls and noise on lattices that grow. Each starts at its lowest
+//! crossed cube.
 
 use crate::cases::Case;
 use crate::fill;
 use crate::random::Random;
+use second::Start;
 
 const N: usize = 64;
 
@@ -18,7 +20,7 @@ fn sampled(n: usize, mut grey: impl FnMut(f64, f64, f64) -> f64) -> Case {
             }
         }
     }
-    Case { sizes: [n; 3], start: None, samples }
+    Case { sizes: [n; 3], start: Start::Lowest, samples }
 }
 
 /// One smooth pore, radius about 21 samples, with three gentle lobes, in solid.

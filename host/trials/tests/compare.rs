@@ -3,6 +3,7 @@
 use host::cubes::{Cubes, Piece};
 use host::sheet::Sheet;
 use host::volume::Volume;
+use second::Start;
 use std::collections::{BTreeMap, BTreeSet};
 use trials::cases::{self, Case, Lent};
 use trials::fill::{self, FILL};
@@ -41,7 +42,7 @@ fn check_with_fill_12000() {
 }
 
 /// Solid, with air and fill at some samples.
-fn worked(sizes: [usize; 3], air: &[[usize; 3]], fill: &[[usize; 3]], start: Option<[usize; 3]>) -> Case {
+fn worked(sizes: [usize; 3], air: &[[usize; 3]], fill: &[[usize; 3]], start: Start) -> Case {
     let mut samples = vec![-1; sizes.iter().product()];
     let number = |[x, y, z]: &[usize; 3]| x + sizes[0] * (y + sizes[1] * z);
     air.iter().for_each(|place| samples[number(place)] = 1);
@@ -56,7 +57,6 @@ fn by_all(case: &Case) -> [usize; 4] {
     let (mut c, mut ours) = (theirs.clone(), theirs.clone());
     let second::Built { number, vertices, triangles, cubes } = theirs.second_build(case);
     let wanted = [number, vertices, triangles, cubes];
-    let start = case.start.map(|cube| cube.map(|v| v as u16));
     let lent = baseline::Lent {
         vertices: c.vertices.lend(),
         triangles: c.triangles.lend(),
@@ -64,7 +64,7 @@ fn by_all(case: &Case) -> [usize; 4] {
         waiting: c.waiting.lend(),
         slots: c.slots.lend(),
     };
-    assert_eq!(baseline::build(sizes, start, &case.samples, lent), wanted, "{case:?}");
+    assert_eq!(baseline::build(sizes, cases::in_c(case.start), &case.samples, lent), wanted, "{case:?}");
     assert!(c == theirs, "second.c leaves other memory: {case:?}");
     let built = ours.library_build(case);
     assert_eq!([built.number, built.vertices, built.triangles, built.cubes], wanted, "{case:?}");
@@ -72,16 +72,68 @@ fn by_all(case: &Case) -> [usize; 4] {
     wanted
 }
 
+/// A start that nobody names has no face in the bounds; half of these lattices have no such cube that is crossed.
+#[test]
+fn build_without_a_start_8000() {
+    hold(8000, 13_000_000, hold::build_unnamed, &[0, 2, 3, 5, 6, 7]);
+}
+
+#[test]
+fn check_without_a_start_8000() {
+    hold(8000, 14_000_000, hold::check_unnamed, &[0, 1, 2, 3, 5, 11, 12, 14, 15, 16, 17, 18, 19]);
+}
+
+/// Worked sheets of document 02 (iv), by all three.
+#[test]
+fn worked_starts() {
+    let of = |sizes: [usize; 3], air: &[[usize; 3]], start| by_all(&worked(sizes, air, &[], start));
+    assert_eq!(of([4; 3], &[[1; 3]], Start::Unnamed), [0, 14, 24, 8]);
+    assert_eq!(of([3; 3], &[[1; 3]], Start::Unnamed), [5, 0, 0, 0]);
+    assert_eq!(of([3; 3], &[[1; 3]], Start::Lowest), [0, 14, 24, 8]);
+    assert_eq!(of([4; 3], &[[0; 3]], Start::Unnamed), [5, 0, 0, 0]);
+    assert_eq!(of([4; 3], &[[0; 3]], Start::Lowest), [0, 3, 1, 1]);
+    let tray = [[0, 0, 0], [4, 2, 2]];
+    assert_eq!(of([6, 4, 4], &tray, Start::Unnamed), [0, 14, 24, 8]);
+    assert_eq!(of([6, 4, 4], &tray, Start::Lowest), [0, 3, 1, 1]);
+    for cube in [[3, 1, 1], [4, 2, 2]] {
+        assert_eq!(of([6, 4, 4], &tray, Start::Cube(cube)), [0, 14, 24, 8]);
+    }
+}
+
+/// One sample of air at each place of lattices of up to five samples an axis: where no start is named, it is the lowest of the cubes
+/// round it that have a cube beyond each face.
+#[test]
+fn every_place_of_small_lattices() {
+    let mut found = 0;
+    for number in 0..64 {
+        let sizes: [usize; 3] = [2 + number % 4, 2 + number / 4 % 4, 2 + number / 16];
+        for sample in 0..sizes.iter().product::<usize>() {
+            let at: [usize; 3] = [sample % sizes[0], sample / sizes[0] % sizes[1], sample / sizes[0] / sizes[1]];
+            // the lowest cube on an axis is one below, but not the first; it must end before the last sample
+            let low = at.map(|v| v.saturating_sub(1).max(1));
+            let fits = (0..3).all(|axis| low[axis] <= at[axis] && low[axis] + 2 < sizes[axis]);
+            let case = worked(sizes, &[at], &[], Start::Unnamed);
+            let all = by_all(&case);
+            assert_eq!(all[0], if fits { 0 } else { 5 }, "{case:?}");
+            if fits {
+                assert_eq!(all, by_all(&Case { start: Start::Cube(low), ..case }));
+            }
+            found += usize::from(fits);
+        }
+    }
+    assert_eq!(found, 125);
+}
+
 /// Worked sheets of document 02 (iii).
 #[test]
 fn worked_sheets_with_fill() {
     let single = |start| worked([3; 3], &[[1; 3]], &[[0; 3]], start);
-    assert_eq!(by_all(&single(Some([0, 0, 0]))), [5, 0, 0, 0]);
-    assert_eq!(by_all(&single(None)), [0, 14, 23, 7]);
+    assert_eq!(by_all(&single(Start::Cube([0, 0, 0]))), [5, 0, 0, 0]);
+    assert_eq!(by_all(&single(Start::Lowest)), [0, 14, 23, 7]);
     for n in 1..8 {
-        assert_eq!(by_all(&single(Some([n % 2, n / 2 % 2, n / 4]))), [0, 14, 23, 7]);
+        assert_eq!(by_all(&single(Start::Cube([n % 2, n / 2 % 2, n / 4]))), [0, 14, 23, 7]);
     }
-    let parted = |start| worked([3, 3, 2], &[[1, 1, 0]], &[[0, 0, 0], [2, 2, 0]], Some(start));
+    let parted = |start| worked([3, 3, 2], &[[1, 1, 0]], &[[0, 0, 0], [2, 2, 0]], Start::Cube(start));
     let pieces = [[1, 0, 0], [0, 1, 0]].map(parted);
     let sheets = pieces.clone().map(|piece| {
         assert_eq!(by_all(&piece), [0, 5, 3, 1]);
@@ -103,9 +155,9 @@ fn worked_sheets_with_fill() {
     for start in [[0, 0, 0], [1, 1, 0]] {
         assert_eq!(by_all(&parted(start)), [5, 0, 0, 0]);
     }
-    assert_eq!(by_all(&worked([2; 3], &[], &[[0; 3]], None)), [5, 0, 0, 0]);
+    assert_eq!(by_all(&worked([2; 3], &[], &[[0; 3]], Start::Lowest)), [5, 0, 0, 0]);
     // a start outside is 4 before all that
-    assert_eq!(by_all(&single(Some([2, 0, 0]))), [4, 0, 0, 0]);
+    assert_eq!(by_all(&single(Start::Cube([2, 0, 0]))), [4, 0, 0, 0]);
 }
 
 /// Each corner of a cube air, solid or fill: its start is crossed exactly where it is free of the fill and not on one side.
@@ -114,7 +166,7 @@ fn every_cube_of_air_solid_and_fill() {
     let mut crossed = 0;
     for number in 0..usize::pow(3, 8) {
         let samples: Vec<i16> = (0..8).map(|corner| [1, -1, FILL][number / usize::pow(3, corner) % 3]).collect();
-        for start in [None, Some([0; 3])] {
+        for start in [Start::Lowest, Start::Cube([0; 3])] {
             let case = Case { sizes: [2; 3], start, samples: samples.clone() };
             let mut ours = Lent::clean(case.sizes, [4 * 19, 3 * 12]);
             let mut theirs = ours.clone();
@@ -147,7 +199,7 @@ fn pairing_with_fill_3000() {
                 continue;
             }
             seen.extend(second::Sheet::of(&lattice, start).visited);
-            case.start = Some([start.x, start.y, start.z].map(|v| v as usize));
+            case.start = Start::Cube([start.x, start.y, start.z].map(|v| v as usize));
             let content = cases::content(&case).expect("the start is crossed");
             single += pairing::hold(&case, &content);
             shared += content.records.iter().filter(|record| !edges.insert(record[0])).count();
@@ -303,7 +355,7 @@ fn whole(mut case: Case, random: &mut Random) {
 /// Air and solid in turn on every axis, at extreme values: nearly the most vertices and triangles.
 fn chequered() -> Case {
     let value = |n: usize| [i16::MAX, i16::MIN + 1][(n % 64 + n / 64 % 64 + n / 4096) % 2];
-    Case { sizes: [64; 3], start: None, samples: (0..64 * 64 * 64).map(value).collect() }
+    Case { sizes: [64; 3], start: Start::Lowest, samples: (0..64 * 64 * 64).map(value).collect() }
 }
 
 #[test]

@@ -13,6 +13,12 @@ enum-told c = search needs
 lowest-cube-requires : tie.Need-lowest-cube-requires
 lowest-cube-requires c κs = search needs
 
+enum-told-2 : tie.Need-enum-told-2
+enum-told-2 c = search needs
+
+lowest-cube-requires-2 : tie.Need-lowest-cube-requires-2
+lowest-cube-requires-2 c κs = search needs
+
 enum-known-start : tie.Need-enum-known-start
 enum-known-start c = search needs
 
@@ -26,6 +32,12 @@ returns c =
 
 returns-2 : tie.Need-returns-2
 returns-2 c =
+    let a = c .before .before .before .before .before .args in
+    subst (λ (s : Start). ChosenBy (a .sizes) (now (a .rows)) (now (a .may)) s (c .lowest-cube2 .result))
+    (sym (c .before .enum-told2 .given .1)) (c .lowest-cube2 .ensures)
+
+returns-3 : tie.Need-returns-3
+returns-3 c =
     let a = c .before .before .before .before .before .before .args in
     subst (λ (s : Start). ChosenBy (a .sizes) (now (a .rows)) (now (a .may)) s (c .named-cube .result)) (sym (c .before .before .start .given .1)) (c .named-cube .ensures)
 
@@ -35,7 +47,10 @@ choose-spec =
     (tie.spec
     enum-told
     lowest-cube-requires
+    enum-told-2
+    lowest-cube-requires-2
     enum-known-start
     named-cube-requires
     returns
-    returns-2)
+    returns-2
+    returns-3)

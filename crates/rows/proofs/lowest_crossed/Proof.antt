@@ -1,4 +1,4 @@
--- No cube before the row is crossed, and no cube of the row so far. Assumes nothing.
+-- No cube before the row is wanted, and no cube of the row so far. Assumes nothing.
 use mathlib.Core.Path.{_≡_, refl, sym, _∙_}
 use mathlib.Core.Bool.{false}
 use Prim.Native.Nat.{ℕ, _+_, _-_, _*_, _≤_, _<_}
@@ -9,30 +9,30 @@ use Rattle.paper.specs.Lattice.{lattice, place, cubeNo}
 use Rattle.paper.specs.Within.{CubeIn}
 use Rattle.bits.specs.Words.{bit}
 use Rattle.rows.specs.Rows.{lookedAt}
-use Rattle.rows.proofs.Search.{next, full, Seeking, Looking, none-looked, looked-le, row-bit, clear-row, none-lowest, found-lowest}
+use Rattle.rows.proofs.Search.{next, full, Seeking, Looking, none-looked, looked-le, wanted-bit, clear-row, none-lowest, found-lowest}
 use borrow.Author.Needs.{needs}
 use Rattle.rows.proofs.lowest_crossed.Statement.{statement}
 use Rattle.rows.proofs.lowest_crossed.Tie as tie
 
 abbrev Inv-loop2 : tie.InvT-loop2
-Inv-loop2 rows may sizes found₀ z y m n x₀ z-end y-end found x = Looking sizes m n found x
+Inv-loop2 rows may sizes off found₀ z y m n x₀ z-end y-end found x = Looking sizes m n found x
 
 abbrev μ-loop2 : tie.MeasureT-loop2
-μ-loop2 rows may sizes found₀ z y m n x₀ z-end y-end found x = n - x
+μ-loop2 rows may sizes off found₀ z y m n x₀ z-end y-end found x = n - x
 
 abbrev Inv-loop : tie.InvT-loop
-Inv-loop rows may sizes found₀ z y₀ z-end y-end found y =
-    Seeking sizes rows may (sizes .ny - 1) found y ((sizes .nx - 1) * (y + (sizes .ny - 1) * z))
+Inv-loop rows may sizes off found₀ z y₀ z-end y-end found y =
+    Seeking off sizes rows may (sizes .ny - 1) found y ((sizes .nx - 1) * (y + (sizes .ny - 1) * z))
 
 abbrev μ-loop : tie.MeasureT-loop
-μ-loop rows may sizes found₀ z y₀ z-end y-end found y = sizes .ny - 1 - y
+μ-loop rows may sizes off found₀ z y₀ z-end y-end found y = sizes .ny - 1 - y
 
 abbrev Inv-sought : tie.InvT-sought
-Inv-sought rows may sizes found₀ z₀ z-end found z =
-    Seeking sizes rows may (sizes .nz - 1) found z ((sizes .nx - 1) * ((sizes .ny - 1) * z))
+Inv-sought rows may sizes off found₀ z₀ z-end found z =
+    Seeking off sizes rows may (sizes .nz - 1) found z ((sizes .nx - 1) * ((sizes .ny - 1) * z))
 
 abbrev μ-sought : tie.MeasureT-sought
-μ-sought rows may sizes found₀ z₀ z-end found z = sizes .nz - 1 - z
+μ-sought rows may sizes off found₀ z₀ z-end found z = sizes .nz - 1 - z
 
 -- the loops outside, and the function's entry
 abbrev outer : tie.At-loop2 Inv-loop2 μ-loop2 Inv-loop μ-loop Inv-sought μ-sought
@@ -56,7 +56,7 @@ short : (c : tie.At-loop2 Inv-loop2 μ-loop2 Inv-loop μ-loop Inv-sought μ-soug
     → c .before .to-look-at .result ≤ first (outer c) .args .sizes .nx - 1
 short c =
     let n = first (outer c) .args .sizes .nx - 1 in
-    omega (arith, c .before .to-look-at .ensures, looked-le (c .before .before .before .crossed-cubes .result) n)
+    omega (arith, c .before .to-look-at .ensures, looked-le (c .before .before .before .wanted-cubes .result) n)
 
 cube-count-requires : tie.Need-cube-count-requires Inv-loop2 μ-loop2 Inv-loop μ-loop Inv-sought μ-sought
 cube-count-requires c κs = c .before .before .pre .0
@@ -74,9 +74,9 @@ loop-holds : tie.Need-loop-holds Inv-loop2 μ-loop2 Inv-loop μ-loop Inv-sought 
 loop-holds c =
     let i = c .before .before .sought .inv in record { upto = omega arith; none = i .none; clear = λ j h. i .clear j (omega arith) }
 
-crossed-cubes-requires :
-    tie.Need-crossed-cubes-requires Inv-loop2 μ-loop2 Inv-loop μ-loop Inv-sought μ-sought
-crossed-cubes-requires c κs = let s = first (c .before) in ((s .pre .0, s .pre .1, s .pre .2), (omega arith, omega arith))
+wanted-cubes-requires :
+    tie.Need-wanted-cubes-requires Inv-loop2 μ-loop2 Inv-loop μ-loop Inv-sought μ-sought
+wanted-cubes-requires c κs = let s = first (c .before) in ((s .pre .0, s .pre .1, s .pre .2), (omega arith, omega arith))
 
 sub-to-look-at : tie.Need-sub-to-look-at Inv-loop2 μ-loop2 Inv-loop μ-loop Inv-sought μ-sought
 sub-to-look-at c = omega arith
@@ -101,7 +101,7 @@ loop2-less c = omega arith
 loop2-again : tie.Need-loop2-again Inv-loop2 μ-loop2 Inv-loop μ-loop Inv-sought μ-sought
 loop2-again c =
     let l = c .before .before .before in
-    let m = l .before .before .before .crossed-cubes .result in
+    let m = l .before .before .before .wanted-cubes .result in
     let i = l .loop2 .inv in
     record {
       upto = omega arith;
@@ -121,14 +121,14 @@ loop-again c =
     let a = first (outer l) .args in
     let k = outer l .loop in
     let z = outermost (outer l) .sought .z in
-    let m = l .before .before .before .crossed-cubes in
+    let m = l .before .before .before .wanted-cubes in
     let e : l .loop2 .x ≡ lookedAt (m .result) (a .sizes .nx - 1) = omega (arith, l .before .to-look-at .ensures) in
     let none = none-looked (m .result) (a .sizes .nx - 1) (λ i h. l .loop2 .inv .clear i (omega arith)) in
     record {
       upto = omega arith;
       none = l .loop2 .inv .none;
-      clear = λ j h. clear-row (a .sizes) (now (a .rows)) (now (a .may)) (m .result) (k .y) z (a .sizes .nx - 1) (m .ensures) (omega arith) (omega arith)
-          (k .inv .clear) none j (omega arith);
+      clear = λ j h. clear-row (a .off) (a .sizes) (now (a .rows)) (now (a .may)) (m .result) (k .y) z (a .sizes .nx - 1) (m .ensures)
+          (omega arith) (omega arith) (k .inv .clear) none j (omega arith);
     }
 
 add-z : tie.Need-add-z Inv-loop2 μ-loop2 Inv-loop μ-loop Inv-sought μ-sought
@@ -151,7 +151,8 @@ returns c s h =
     let b = entry (c .before) in
     let L = lattice (b .args .sizes) s in
     let e = full L ((b .args .sizes .nx - 1) * ((b .args .sizes .ny - 1) * l .z)) (l .z) (omega arith) refl in
-    l .inv .none ∙ none-lowest L (now (b .args .rows)) (now (b .args .may)) (b .pre .0) h (λ j g. l .inv .clear j (omega arith))
+    l .inv .none
+    ∙ none-lowest (b .args .off) L (now (b .args .rows)) (now (b .args .may)) (b .pre .0) h (λ j g. l .inv .clear j (omega arith))
 
 -- the cube that is found
 cube-in : (c : tie.Then1 Inv-loop2 μ-loop2 Inv-loop μ-loop Inv-sought μ-sought)
@@ -177,16 +178,17 @@ returns-2 c s h =
     let b = first (outer l) in
     let k = outer l .loop in
     let z = outermost (outer l) .sought .z in
-    let m = l .before .before .before .crossed-cubes in
+    let m = l .before .before .before .wanted-cubes in
     let x = l .loop2 .x in
     let hx : x < b .args .sizes .nx - 1 = omega (arith, short l) in
     let n = b .args .sizes in
     let ws = now (b .args .rows) in
     let vs = now (b .args .may) in
     c .cube-no .ensures .0
-    ∙ found-lowest (lattice n s) ws vs (b .pre .0) h (place x (k .y) z) (cube-in t)
-    (clear-row n ws vs (m .result) (k .y) z x (m .ensures) (omega arith) (omega arith) (k .inv .clear) (l .loop2 .inv .clear))
-    (sym (row-bit n ws vs (m .result) (k .y) z x (m .ensures)) ∙ (sym (t .before .has-bit .ensures) ∙ t .if1 .taken))
+    ∙ found-lowest (b .args .off) (lattice n s) ws vs (b .pre .0) h (place x (k .y) z) (cube-in t)
+    (clear-row (b .args .off) n ws vs (m .result) (k .y) z x (m .ensures) (omega arith) (omega arith) (k .inv .clear)
+    (l .loop2 .inv .clear))
+    (sym (wanted-bit (b .args .off) n ws vs (m .result) (k .y) z x (m .ensures)) ∙ (sym (t .before .has-bit .ensures) ∙ t .if1 .taken))
 
 pub lowest-crossed-spec : {M : Type 1} → statement M
 lowest-crossed-spec =
@@ -203,7 +205,7 @@ lowest-crossed-spec =
     sought-holds
     sub-y-end
     loop-holds
-    crossed-cubes-requires
+    wanted-cubes-requires
     sub-to-look-at
     to-look-at-requires
     loop2-holds

@@ -1,10 +1,10 @@
 //! `reads CALL VOLUME`: one call on a volume file, whose samples stand in a heap block that nothing but the call reads, so that
-//! valgrind's dhat counts the call's reads of them (host/reads.sh). CALL is `build`, `named` (the same from the lowest crossed cube,
-//! named), `check` (of the sheet's own file), `second` (the build of second.c) or `nothing`.
+//! valgrind's dhat counts the call's reads of them (host/reads.sh). CALL is `build` (from the lowest crossed cube), `named` (the same
+//! with its place), `check` (of the sheet's own file), `second` (the build of second.c) or `nothing`.
 //!
 //! Prints the bytes of that block, the samples, the sheet's vertices and cubes, and the number of the lowest crossed cube.
 
-use host::abi::{self, Lattice};
+use host::abi::{self, Lattice, Start};
 use host::room::{self, Room};
 use host::sheet::Sheet;
 use host::volume::Volume;
@@ -33,7 +33,7 @@ fn lowest(volume: &Volume) -> Option<[usize; 3]> {
 fn call(name: &str, own: Lattice, start: [usize; 3], file: &[u8], [nv, nt]: [usize; 2]) -> Option<usize> {
     let (mut vertices, mut triangles, mut room) = (vec![0; 4 * nv], vec![0; 3 * nt], Room::default());
     let work = room.lend(own.sizes);
-    let named = Lattice { start: Some(place(start)), ..own };
+    let named = Lattice { start: Start::Cube(place(start)), ..own };
     let abi::Sizes { nx, ny, nz } = own.sizes;
     match name {
         "build" => Some(abi::build(own, &mut vertices, &mut triangles, work).number),
@@ -42,7 +42,7 @@ fn call(name: &str, own: Lattice, start: [usize; 3], file: &[u8], [nv, nt]: [usi
         "second" => {
             let abi::Work { words, waiting, slots } = work;
             let lent = baseline::Lent { vertices: &mut vertices, triangles: &mut triangles, words, waiting, slots };
-            Some(baseline::build([nx, ny, nz].map(|axis| axis as u16), None, own.samples, lent)[0])
+            Some(baseline::build([nx, ny, nz].map(|axis| axis as u16), baseline::Start::Lowest, own.samples, lent)[0])
         }
         "nothing" => Some(0),
         _ => None,
@@ -52,10 +52,10 @@ fn call(name: &str, own: Lattice, start: [usize; 3], file: &[u8], [nv, nt]: [usi
 fn run(name: &str, path: &str) -> Result<String, String> {
     let volume = Volume::parse(&std::fs::read(path).map_err(|error| format!("{path}: {error}"))?);
     let Some(start) = lowest(&volume) else { return Err(format!("{path}: no cube is crossed")) };
-    let (built, sheet) = Sheet::build(&volume, None, &mut Room::default());
+    let (built, sheet) = Sheet::build(&volume, Start::Lowest, &mut Room::default());
     let file = sheet.file().map_err(|number| format!("{path}: no file, {number}"))?;
     let samples = block(&volume.samples);
-    let own = Lattice { sizes: volume.sizes, start: None, samples: &samples };
+    let own = Lattice { sizes: volume.sizes, start: Start::Lowest, samples: &samples };
     match call(name, own, start, &file, [built.vertices, built.triangles]) {
         Some(0) => {}
         Some(number) => return Err(format!("{path}: {name} is refused, {number}")),

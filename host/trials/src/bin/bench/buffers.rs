@@ -2,7 +2,7 @@
 
 use baseline::Lent;
 use host::abi::{self, Work};
-use trials::cases::{sizes, Case};
+use trials::cases::{in_c, sizes, Case};
 
 pub struct Buffers {
     pub vertices: Vec<i32>,
@@ -49,7 +49,7 @@ impl Buffers {
             waiting: &mut self.waiting,
             slots: &mut self.slots,
         };
-        baseline::build(case.sizes.map(|axis| axis as u16), None, &case.samples, lent)
+        baseline::build(case.sizes.map(|axis| axis as u16), in_c(case.start), &case.samples, lent)
     }
 
     pub fn build(&mut self, case: &Case) -> [usize; 4] {

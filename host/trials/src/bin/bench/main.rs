@@ -122,7 +122,10 @@ fn main() -> ExitCode {
         eprintln!("bench [REPEATS]");
         return ExitCode::from(2);
     };
-    println!("The proved library beside second.c ({}), start not named; 64 x 64 x 64 samples", baseline::COMPILER);
+    println!(
+        "The proved library beside second.c ({}), from the lowest crossed cube; 64 x 64 x 64 samples",
+        baseline::COMPILER
+    );
     println!("but where an axis is named. Times of second.c are of its build. Least of {repeats} repeats ({FEW} of the second");
     println!("mesher of the trials), all calls interleaved in one run; all buffers were cleared before each call.");
     if abi::OWN {
