@@ -53,7 +53,7 @@ peers:
 stack:
 	sh host/own.sh stack
 
-## make reads     how often a build and a check read samples, counted by valgrind
+## make reads     how often a build, a check and a search for pieces read samples, counted by valgrind
 reads:
 	command -v valgrind >/dev/null || { apt-get update -qq && apt-get install -y -qq valgrind; }
 	sh host/own.sh sh host/reads.sh

@@ -39,11 +39,19 @@ show malxuqeed from-raw tray.raw tray.vol --sizes 64,64,40 --type u16 --level 20
 show malxuqeed info tray.vol
 say ""
 
-say "2. Build and check. Each surface becomes a sheet: counts of vertices, triangles and visited cubes."
+say "2. Build and check. Every piece is listed by its lowest cube, and becomes a sheet: counts of vertices, triangles and visited" \
+    "   cubes. build-all makes all of them, each checked as it stands on the disk: the same sheets."
+show malxuqeed pieces tray.vol
 while read -r volume sheet start; do
     say "   \$ malxuqeed build $volume $sheet --start $start"
     malxuqeed build "$volume" "$sheet" --start "$start" 2>/dev/null | sed 's/^/   /'
 done <manifest.txt
+show malxuqeed build-all tray.vol all
+same=0
+for sheet in $(cut -d ' ' -f 2 manifest.txt); do
+    for other in all/*.sheet; do if cmp -s "$sheet" "$other"; then same=$((same + 1)); fi; done
+done
+say "   $same of these are the sheets above, byte for byte."
 pore=housing-2-pore-1
 show malxuqeed check tray.vol $pore.sheet --start auto
 begin 3 malxuqeed list tray.vol --start "$(sed -n "s/.*$pore.sheet //p" manifest.txt)"

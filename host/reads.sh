@@ -18,8 +18,8 @@ count() {
     reads=$((read_bytes / 2))
 }
 
-printf 'volume   samples  vertices    cubes  lowest  %22s  %22s  %22s  %22s\n' 'build, a sample' 'start named, a sample' 'check, a sample' \
-    'second.c, a sample'
+printf 'volume   samples  vertices    cubes  lowest  %22s  %22s  %22s  %22s  %22s\n' 'build, a sample' 'start named, a sample' \
+    'check, a sample' 'pieces, a sample' 'second.c, a sample'
 for volume in pore tray noise; do
     count nothing $volume
     [ $reads = 0 ] || { echo "reads.sh: the samples of $volume are read before any call" >&2; exit 1; }
@@ -27,7 +27,7 @@ for volume in pore tray noise; do
     set -- $about
     samples=$2
     printf '%-6s  %8s  %8s  %7s  %6s' $volume "$2" "$3" "$4" "$5"
-    for call in build named check second; do
+    for call in build named check pieces second; do
         count $call $volume
         printf '  %14s %7s' $reads "$(awk "BEGIN { printf \"%.2f\", $reads / $samples }")"
     done

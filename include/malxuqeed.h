@@ -1,8 +1,9 @@
-/* malxuqeed.h: the proved mesher, writer, reader and checker of sheets, writer and reader of binary STL, and converter of volumes
- * in f32, for C and C++.
+/* malxuqeed.h: the proved mesher, writer, reader and checker of sheets, finder of pieces, writer and reader of binary STL, and
+ * converter of volumes in f32, for C and C++.
  *
  * Each function is proved to be safe on every input, to end, and to give exactly the answer and the refusal that document 01
- * says, for STL document 02 (i), for volumes in f32 document 02 (vii). Nothing is asked of a caller but this:
+ * says, for STL document 02 (i), for pieces document 02 (v), for volumes in f32 document 02 (vii). Nothing is asked of a caller
+ * but this:
  *
  *   - each pointer leads to as many elements as the length behind it says (0 elements need no place: any pointer will do);
  *   - NO SLICE OVERLAPS ANOTHER that the same call may write to (samples and bytes that are only read may be shared between
@@ -10,9 +11,9 @@
  *   - all that a call is given stays as it is until the call returns. No call keeps a pointer, and calls share nothing: calls
  *     on slices of their own may run at the same time.
  *
- * Lent work room may hold anything on entry. After a success, and after 6, 7 (building), 17, 18 and 19, its needed front is
+ * Lent work room may hold anything on entry. After a success, and after 6, 7 (building), 17, 18, 19 and 20, its needed front is
  * all 0; after any other refusal it is as it was. No refusal writes to output, and nothing beyond what is written changes.
- * The library takes up to 164 KB of stack and no memory of its own. */
+ * The library takes up to 170 KB of stack and no memory of its own. */
 #ifndef MALXUQEED_H
 #define MALXUQEED_H
 
@@ -58,6 +59,7 @@ typedef enum {
     MALXUQEED_VERTEX = 17,
     MALXUQEED_TRIANGLE = 18,
     MALXUQEED_ABSENT = 19,
+    MALXUQEED_PIECES = 20,
     MALXUQEED_GREY = 21,
     MALXUQEED_ORDER = 22,
     MALXUQEED_COORDINATE = 25,
@@ -89,6 +91,7 @@ static inline const char *malxuqeed_meaning(size_t number)
     case MALXUQEED_TRIANGLE:
         return "a triangle of the sheet file is not on this surface, faces the wrong way, or comes twice";
     case MALXUQEED_ABSENT: return "a vertex or a triangle of this surface is missing from the sheet file";
+    case MALXUQEED_PIECES: return "there are more pieces than the list has room for";
     case MALXUQEED_GREY: return "a grey or a voxel is not a number, or lies beyond 65,536 on either side of 0";
     case MALXUQEED_ORDER: return "the grey of air is not below that of material";
     case MALXUQEED_COORDINATE:
@@ -105,6 +108,15 @@ static inline const char *malxuqeed_stl_meaning(size_t number)
     case MALXUQEED_TRIANGLE_ROOM: return "the STL file has more facets than there is room for";
     case MALXUQEED_COUNT: return "a count is larger than what was given, or than a sheet may have";
     case MALXUQEED_LAYOUT: return "the length of the STL file is not what its facet count asks for";
+    default: return malxuqeed_meaning(number);
+    }
+}
+
+/* The same where the pieces are sought. */
+static inline const char *malxuqeed_pieces_meaning(size_t number)
+{
+    switch (number) {
+    case MALXUQEED_NOT_CROSSED: return "there is no piece: the surface passes through no cube free of the fill";
     default: return malxuqeed_meaning(number);
     }
 }
@@ -145,6 +157,7 @@ typedef struct { size_t number, place, bytes; } malxuqeed_wrote;
 typedef struct { size_t number, place, vertices, triangles; malxuqeed_sizes sizes; } malxuqeed_got;
 typedef struct { size_t number, place; } malxuqeed_verdict;
 typedef struct { size_t number, place, facets; } malxuqeed_loaded;
+typedef struct { size_t number, pieces; } malxuqeed_found;
 
 /* Builds the sheet through a start cube, which from and start tell (MALXUQEED_FROM_DEFAULT and so on). Vertices are records of
  * four numbers (edge, x, y, z; coordinates in 1/65536 of a sample step), triangles three vertex numbers.
@@ -166,6 +179,15 @@ malxuqeed_got malxuqeed_read(const uint8_t *bytes, size_t bytes_len, int32_t *ve
 malxuqeed_verdict malxuqeed_check(malxuqeed_sizes sizes, uint32_t from, malxuqeed_place start, const int16_t *samples,
     size_t samples_len, const uint8_t *bytes, size_t bytes_len, uint16_t *words, size_t words_len, uint32_t *waiting,
     size_t waiting_len, uint32_t *slots, size_t slots_len);
+
+/* Finds every piece: all that is reached from a crossed cube by steps through mixed faces, into cubes free of the fill. The list
+ * gets the number of each piece's lowest cube, by rising number; cube (x, y, z) has number x + (nx-1) * (y + (ny-1) * z), and
+ * is a start of that piece for malxuqeed_build. Tests 1, 2, 3, 5 where there is no piece, 20 where there are more than list_len
+ * (the list is then as it was). The count is that of all pieces at 0 and 20, else 0. With list_len 0 and some piece the answer
+ * is 20 with the count. No lattice has more pieces than cubes. */
+malxuqeed_found malxuqeed_pieces(malxuqeed_sizes sizes, const int16_t *samples, size_t samples_len, uint32_t *list,
+    size_t list_len, uint16_t *words, size_t words_len, uint32_t *waiting, size_t waiting_len, uint32_t *slots,
+    size_t slots_len);
 
 /* Writes the triangles of a sheet as a binary STL file to the front of bytes: 80 bytes of 0, the count (u32), then 50 bytes a
  * facet: a normal of 0, three corners of three f32, two bytes of 0. Floats are in sample steps, each exactly its coordinate

@@ -18,14 +18,16 @@ typedef struct { usize number, place, bytes; } wrote;
 typedef struct { usize number, place, vertices, triangles; sizes sizes; } got;
 typedef struct { usize number, place; } verdict;
 typedef struct { usize number, place, facets; } loaded;
+typedef struct { usize number, pieces; } found;
 
-extern built malxuqeed_build(sizes, _Bool, place, const i16 *, usize, i32 *, usize, u32 *, usize, u16 *, usize, u32 *, usize, u32 *, usize);
+extern built malxuqeed_build(sizes, u32, place, const i16 *, usize, i32 *, usize, u32 *, usize, u16 *, usize, u32 *, usize, u32 *, usize);
 extern wrote malxuqeed_write(sizes, usize, usize, const i32 *, usize, const u32 *, usize, u8 *, usize);
 extern got malxuqeed_read(const u8 *, usize, i32 *, usize, u32 *, usize);
-extern verdict malxuqeed_check(sizes, _Bool, place, const i16 *, usize, const u8 *, usize, u16 *, usize, u32 *, usize, u32 *, usize);
+extern verdict malxuqeed_check(sizes, u32, place, const i16 *, usize, const u8 *, usize, u16 *, usize, u32 *, usize, u32 *, usize);
 extern wrote malxuqeed_stl_write(usize, usize, const i32 *, usize, const u32 *, usize, u8 *, usize);
 extern loaded malxuqeed_stl_read(const u8 *, usize, i32 *, usize);
 extern verdict malxuqeed_convert(_Bool, float, float, u32, const float *, usize, i16 *, usize);
+extern found malxuqeed_pieces(sizes, const i16 *, usize, u32 *, usize, u16 *, usize, u32 *, usize, u32 *, usize);
 
 /* What compiled code calls of a C library. */
 void *memset(void *to, int value, usize n) { for (usize i = 0; i < n; i++) ((u8 *)to)[i] = (u8)value; return to; }
@@ -157,6 +159,11 @@ static void serve(const u64 *asked, u64 *answer)
     case 6: {
         verdict r = malxuqeed_convert(asked[1] != 0, float_of(asked[2]), float_of(asked[3]), (u32)asked[4], S(0, float), S(1, i16));
         answer[0] = r.number; answer[1] = r.place;
+        break;
+    }
+    case 7: {
+        found r = malxuqeed_pieces(z, S(0, i16), S(1, u32), S(2, u16), S(3, u32), S(4, u32));
+        answer[0] = r.number; answer[1] = r.pieces;
         break;
     }
     default: leave(1);

@@ -2,6 +2,8 @@
 //! answers; no verdict hangs on them.
 
 use crate::abi::{Place, Sizes, Start};
+use crate::room;
+use crate::sheet::Sheet;
 use crate::volume::{Volume, FILL};
 
 /// The ends of each kind of edge, from its anchor (document 01).
@@ -47,13 +49,12 @@ impl Cubes<'_> {
     }
 
     fn at(&self, number: usize) -> [usize; 3] {
-        let [nx, ny, _] = self.sizes.map(|axis| axis - 1);
-        [number % nx, number / nx % ny, number / nx / ny]
+        let Place { x, y, z } = room::cube(self.volume.sizes, number);
+        [x, y, z]
     }
 
-    pub fn number(&self, cube: Place) -> usize {
-        let [nx, ny, _] = self.sizes.map(|axis| axis - 1);
-        cube.x + nx * (cube.y + ny * cube.z)
+    fn number(&self, cube: [usize; 3]) -> usize {
+        room::cube_number(self.volume.sizes, place(cube))
     }
 
     fn sample(&self, [x, y, z]: [usize; 3]) -> i16 {
@@ -84,6 +85,11 @@ impl Cubes<'_> {
     pub fn is_crossed(&self, number: usize) -> bool {
         let cube = self.at(number);
         self.is_visitable(cube) && !matches!(self.pattern(cube), 0 | 255)
+    }
+
+    /// How many cubes are crossed.
+    pub fn crossed(&self) -> usize {
+        (0..self.count()).filter(|&number| self.is_crossed(number)).count()
     }
 
     /// How many cubes have the fill at a corner.
@@ -130,31 +136,37 @@ impl Cubes<'_> {
         })
     }
 
-    /// Every surface, by its lowest cube; and for each cube the number of its piece, or nothing where it is not crossed.
-    pub fn pieces(&self) -> (Vec<Piece>, Vec<Option<u32>>) {
+    /// Every surface, by its lowest cube.
+    pub fn pieces(&self) -> Vec<Piece> {
         let mut pieces: Vec<Piece> = Vec::new();
-        let mut of = vec![None; self.count()];
+        let mut seen = vec![false; self.count()];
         for number in 0..self.count() {
-            if of[number].is_some() || !self.is_crossed(number) {
+            if seen[number] || !self.is_crossed(number) {
                 continue;
             }
-            let (own, start) = (Some(pieces.len() as u32), self.at(number));
+            let start = self.at(number);
             let mut waiting = vec![start];
             let mut cubes = 0;
-            of[number] = own;
+            seen[number] = true;
             while let Some(cube) = waiting.pop() {
                 cubes += 1;
                 for next in self.neighbours(cube) {
-                    let seen = &mut of[self.number(place(next))];
-                    if seen.is_none() {
-                        *seen = own;
+                    let seen = &mut seen[self.number(next)];
+                    if !*seen {
+                        *seen = true;
                         waiting.push(next);
                     }
                 }
             }
             pieces.push(Piece { start: place(start), cubes });
         }
-        (pieces, of)
+        pieces
+    }
+
+    /// The lowest cube of a sheet as the library builds it: that of its first triangle, the one that is round all three edges.
+    pub fn lowest_of(&self, sheet: &Sheet) -> Option<Place> {
+        let [first, second, third] = sheet.by_edges().next()?.map(|edge| self.round_edge(edge));
+        first.into_iter().find(|cube| second.contains(cube) && third.contains(cube))
     }
 
     /// The ends of an edge by its number; nothing where it is no edge of the lattice.
@@ -205,10 +217,10 @@ mod tests {
         let pair = volume([5, 2, 2], &[0, 4]);
         let cubes = Cubes::of(&pair).expect("a whole volume");
         let [first, second] = [0, 3].map(|x| Piece { start: Place { x, y: 0, z: 0 }, cubes: 1 });
-        assert_eq!(cubes.pieces(), (vec![first, second], vec![Some(0), None, None, Some(1)]));
+        assert_eq!((cubes.pieces(), cubes.crossed()), (vec![first, second], 2));
         assert_eq!(cubes.lowest_crossed(), Some(first.start));
         let single = volume([3, 3, 3], &[13]);
-        let (pieces, _) = Cubes::of(&single).expect("a whole volume").pieces();
+        let pieces = Cubes::of(&single).expect("a whole volume").pieces();
         assert_eq!(pieces, [Piece { start: Place::default(), cubes: 8 }]);
         assert_eq!(Cubes::of(&volume([2, 2, 2], &[])).and_then(|cubes| cubes.lowest_crossed()), None);
         assert!(Cubes::of(&Volume::default()).is_none());
@@ -231,14 +243,14 @@ mod tests {
         single.samples[0] = FILL;
         let cubes = Cubes::of(&single).expect("a whole volume");
         let first = Place { x: 1, y: 0, z: 0 };
-        assert_eq!(cubes.pieces().0, [Piece { start: first, cubes: 7 }]);
-        assert_eq!((cubes.lowest_crossed(), cubes.filled(), cubes.pieces().1[0]), (Some(first), 1, None));
+        assert_eq!(cubes.pieces(), [Piece { start: first, cubes: 7 }]);
+        assert_eq!((cubes.lowest_crossed(), cubes.filled(), cubes.crossed()), (Some(first), 1, 7));
 
         let mut parted = volume([3, 3, 2], &[4]);
         (parted.samples[0], parted.samples[8]) = (FILL, FILL);
         let cubes = Cubes::of(&parted).expect("a whole volume");
         let second = Place { x: 0, y: 1, z: 0 };
-        assert_eq!(cubes.pieces().0, [first, second].map(|start| Piece { start, cubes: 1 }));
+        assert_eq!(cubes.pieces(), [first, second].map(|start| Piece { start, cubes: 1 }));
         assert_eq!(cubes.round_edge(30), [first, second]);
         let edges: Vec<i32> = (0..7 * 18).filter(|edge| cubes.ends_at_fill(*edge)).collect();
         assert_eq!(edges, [0, 1, 2, 34, 36, 38, 49, 53, 58]);

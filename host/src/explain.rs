@@ -6,7 +6,8 @@ use crate::failure::shown;
 use crate::files;
 use crate::floats::{self, Floats};
 use crate::numbers::{self, Of};
-use crate::room;
+use crate::pieces;
+use crate::room::{self, Room};
 use crate::sheet::Sheet;
 use crate::stl::{self, Corners};
 use crate::volume::{self, Volume, FILL};
@@ -22,14 +23,17 @@ pub struct About<'a> {
     /// A volume in f32, the level and the scale.
     pub floats: Option<(&'a Path, &'a Floats, Level, u32)>,
     pub start: Option<Place>,
+    /// Whether the pieces of the volume were sought.
+    pub pieces: bool,
 }
 
 impl About<'_> {
     fn of(&self) -> Of {
-        match (self.stl, self.floats) {
-            (Some(_), _) => Of::Stl,
-            (None, Some(_)) => Of::Floats,
-            (None, None) => Of::Sheet,
+        match (self.stl, self.floats, self.pieces) {
+            (Some(_), ..) => Of::Stl,
+            (None, Some(_), _) => Of::Floats,
+            (None, None, true) => Of::Pieces,
+            (None, None, false) => Of::Sheet,
         }
     }
 }
@@ -134,10 +138,11 @@ fn samples(path: &Path, volume: &Volume) -> String {
 fn not_crossed(path: &Path, volume: &Volume, start: Option<Place>) -> Option<String> {
     let cubes = Cubes::of(volume)?;
     let name = shown(path);
+    let starts = pieces::find(volume, &mut Room::default()).unwrap_or_default();
     Some(match start {
         Some(start) => {
             let (cube, corners) = (place_text(start), cubes.corners(start));
-            match corners.iter().filter(|corner| **corner == FILL).count() {
+            let why = match corners.iter().filter(|corner| **corner == FILL).count() {
                 0 => {
                     let side = if corners[0] > 0 { "air" } else { "solid" };
                     format!("all eight corners of cube {cube} of {name} are {side}")
@@ -146,10 +151,11 @@ fn not_crossed(path: &Path, volume: &Volume, start: Option<Place>) -> Option<Str
                     "cube {cube} of {name} holds the scanner's fill: {count} of its eight corners are -32768, which is no \
                      sample, and such a cube is never visited"
                 ),
-            }
+            };
+            format!("{why}; {}", there(&starts))
         }
-        None => match cubes.lowest_crossed() {
-            Some(lowest) => {
+        None => match starts.first() {
+            Some(&lowest) => {
                 let free = if volume.samples.contains(&FILL) { " and that is free of the scanner's fill" } else { "" };
                 format!(
                     "each cube of {name} that a surface crosses{free} has a face in the volume's bounds, and where no start is \
@@ -160,6 +166,22 @@ fn not_crossed(path: &Path, volume: &Volume, start: Option<Place>) -> Option<Str
             None => format!("no surface is in {name}: {}", nowhere(volume)),
         },
     })
+}
+
+/// Starts that are named in a sentence.
+const NAMED: usize = 3;
+
+/// The surfaces that there are, by their starts.
+fn there(starts: &[Place]) -> String {
+    let named: Vec<String> = starts.iter().take(NAMED).map(|start| place_text(*start)).collect();
+    match (starts.len(), named.as_slice()) {
+        (0, _) => "no surface is in the volume".to_string(),
+        (1, _) => format!("the one surface there is starts at {}", named[0]),
+        (count, [first @ .., last]) if count <= NAMED => {
+            format!("its {count} surfaces start at {} and {last}", first.join(", "))
+        }
+        (count, _) => format!("its {count} surfaces start at {} and so on", named.join(", ")),
+    }
 }
 
 /// Why no cube of a volume is crossed.

@@ -8,6 +8,7 @@ use crate::streams::Streams;
 use std::fs::{self, File, Permissions};
 use std::io::{self, Read, Seek, SeekFrom, Write};
 use std::path::{Path, PathBuf};
+use std::sync::{Mutex, PoisonError};
 use std::time::Duration;
 
 /// The longest sheet file: 2,000,000 vertices, 4,000,000 triangles and the trailer.
@@ -127,6 +128,38 @@ pub fn put(path: &Path, bytes: &[u8], force: bool, streams: &mut Streams) -> Res
     Pending::new(path, force)?.finish(bytes, streams)
 }
 
+/// Writes a file that is read back and tested before it gets its name: where the test says no, the old file stays or there is none.
+/// What the test answers besides is returned.
+pub fn put_tested<T>(
+    path: &Path,
+    bytes: &[u8],
+    force: bool,
+    test: impl FnOnce(&[u8]) -> (T, bool),
+) -> Result<T, Failure> {
+    let put = || {
+        let mut part = Part::begin(path, force)?;
+        part.write(bytes)?;
+        let (answer, good) = test(&fs::read(&part.name)?);
+        if good {
+            part.give_name()?;
+        }
+        Ok(answer)
+    };
+    put().map_err(|error| Failure::writing(path, &error))
+}
+
+/// Makes a folder; answers whether it was there already.
+pub fn make_folder(path: &Path) -> io::Result<bool> {
+    match fs::create_dir(path) {
+        Ok(()) => Ok(false),
+        Err(_) if path.is_dir() => Ok(true),
+        Err(error) if error.kind() == io::ErrorKind::AlreadyExists => {
+            Err(io::Error::other("it is there and is no folder; name another"))
+        }
+        Err(error) => Err(error),
+    }
+}
+
 /// A command's answer: on standard output, or on standard error where the file that was written has taken that.
 pub fn answer(written: &Path, line: &str, streams: &mut Streams) -> Result<(), Failure> {
     if is_stream(written) {
@@ -156,12 +189,8 @@ struct Part {
 
 impl Pending {
     pub fn new(path: &Path, force: bool) -> Result<Pending, Failure> {
-        let begin = || {
-            let (target, old) = target(path, force)?;
-            let (name, file) = create_beside(&target)?;
-            Ok(Part { target, name, file, old })
-        };
-        let part = if is_stream(path) { None } else { Some(begin().map_err(|error| Failure::writing(path, &error))?) };
+        let begin = || Part::begin(path, force).map_err(|error| Failure::writing(path, &error));
+        let part = if is_stream(path) { None } else { Some(begin()?) };
         Ok(Pending { path: path.to_path_buf(), part })
     }
 
@@ -174,12 +203,27 @@ impl Pending {
 }
 
 impl Part {
+    fn begin(path: &Path, force: bool) -> io::Result<Part> {
+        let (target, old) = target(path, force)?;
+        let (name, file) = create_beside(&target)?;
+        Ok(Part { target, name, file, old })
+    }
+
     fn finish(&mut self, bytes: &[u8]) -> io::Result<()> {
+        self.write(bytes)?;
+        self.give_name()
+    }
+
+    /// All of it, to the disk.
+    fn write(&mut self, bytes: &[u8]) -> io::Result<()> {
         self.file.write_all(bytes)?;
         if let Some(permissions) = self.old.take() {
             self.file.set_permissions(permissions)?;
         }
-        self.file.sync_all()?;
+        self.file.sync_all()
+    }
+
+    fn give_name(&mut self) -> io::Result<()> {
         let mut parts = parts();
         fs::rename(&self.name, &self.target)?;
         parts.retain(|part| *part != self.name);
@@ -252,12 +296,17 @@ fn create_beside(target: &Path) -> io::Result<(PathBuf, File)> {
     }
 }
 
+/// The folder that was swept last: for many files in one folder, once is enough.
+static SWEPT: Mutex<Option<PathBuf>> = Mutex::new(None);
+
 /// Removes the unfinished files of this machine's processes that are no more. They must be a minute old, since a process
 /// may be alive where this one cannot see it.
 fn sweep(folder: &Path, own: &str) {
-    if !Path::new("/proc/self").exists() {
+    let mut swept = SWEPT.lock().unwrap_or_else(PoisonError::into_inner);
+    if swept.as_deref() == Some(folder) || !Path::new("/proc/self").exists() {
         return;
     }
+    *swept = Some(folder.to_path_buf());
     for entry in fs::read_dir(folder).into_iter().flatten().flatten() {
         let name = entry.file_name();
         let process = name.to_str().and_then(|name| name.strip_prefix(own)?.strip_suffix(".part")?.split('-').next());
@@ -270,4 +319,34 @@ fn sweep(folder: &Path, own: &str) {
 
 fn age(entry: &fs::DirEntry) -> Option<Duration> {
     entry.metadata().ok()?.modified().ok()?.elapsed().ok()
+}
+
+#[cfg(test)]
+mod tests {
+    use super::*;
+
+    #[test]
+    fn a_file_has_its_name_after_its_test() {
+        let folder = std::env::temp_dir().join(format!("malxuqeed-files-{}", std::process::id()));
+        assert_eq!(make_folder(&folder).ok(), Some(false));
+        assert_eq!(make_folder(&folder).ok(), Some(true));
+        let path = folder.join("new");
+        let names = || fs::read_dir(&folder).into_iter().flatten().flatten().count();
+        let put = |bytes: &[u8], good: bool| {
+            let before = fs::read(&path).ok();
+            let test = |written: &[u8]| {
+                // all of it is there, under another name
+                assert_eq!((written, fs::read(&path).ok()), (bytes, before.clone()));
+                (written.len(), good)
+            };
+            put_tested(&path, bytes, false, test).ok()
+        };
+        assert_eq!((put(b"wrong", false), names()), (Some(5), 0));
+        assert_eq!((put(b"good", true), names()), (Some(4), 1));
+        assert_eq!((put(b"wrong again", false), names()), (Some(11), 1));
+        assert_eq!(fs::read(&path).ok().as_deref(), Some(&b"good"[..]));
+        assert!(put_tested(&folder, b"", true, |_| ((), true)).is_err());
+        assert!(make_folder(&path).is_err());
+        assert!(fs::remove_dir_all(&folder).is_ok());
+    }
 }

@@ -15,6 +15,7 @@ pub mod lines;
 pub mod marks;
 pub mod numbers;
 pub mod picture;
+pub mod pieces;
 pub mod refuse;
 pub mod room;
 pub mod sheet;

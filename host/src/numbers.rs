@@ -14,6 +14,8 @@ pub struct Number {
     pub stl: Option<Words>,
     /// And of a volume in f32.
     pub floats: Option<Words>,
+    /// And of a search for pieces.
+    pub pieces: Option<Words>,
 }
 
 /// What a refusal speaks of.
@@ -23,6 +25,7 @@ pub enum Of {
     Sheet,
     Stl,
     Floats,
+    Pieces,
 }
 
 /// A number's meaning and remedy.
@@ -45,19 +48,26 @@ impl Number {
         self
     }
 
+    /// The same row, with other words for a search for pieces.
+    const fn of_pieces(mut self, means: &'static str, remedy: &'static str) -> Number {
+        self.pieces = Some(Words { means, remedy });
+        self
+    }
+
     /// The words for what is spoken of.
     pub fn words(&self, of: Of) -> Words {
         let own = match of {
             Of::Sheet => None,
             Of::Stl => self.stl,
             Of::Floats => self.floats,
+            Of::Pieces => self.pieces,
         };
         own.unwrap_or(Words { means: self.means, remedy: self.remedy })
     }
 }
 
 const fn row(number: usize, name: &'static str, means: &'static str, remedy: &'static str) -> Number {
-    Number { number, name, means, remedy, place: None, stl: None, floats: None }
+    Number { number, name, means, remedy, place: None, stl: None, floats: None, pieces: None }
 }
 
 const fn placed(
@@ -67,14 +77,14 @@ const fn placed(
     means: &'static str,
     remedy: &'static str,
 ) -> Number {
-    Number { number, name, means, remedy, place: Some(place), stl: None, floats: None }
+    Number { number, name, means, remedy, place: Some(place), stl: None, floats: None, pieces: None }
 }
 
 /// 25, of a sheet that is written and of a file that is read.
 const NO_COORDINATE: &str =
     "a triangle has a coordinate outside 0 to 4,128,768, or a facet a float that no such coordinate gives";
 
-pub const NUMBERS: [Number; 21] = [
+pub const NUMBERS: [Number; 22] = [
     row(
         1,
         "AXIS",
@@ -117,9 +127,14 @@ pub const NUMBERS: [Number; 21] = [
         "NOT_CROSSED",
         "the surface does not pass through the named start cube, or that cube holds the fill; or no cube is named, and none is \
          crossed, or only cubes at the bounds are",
-        "'malxuqeed info' lists a start of every surface of a volume, and --start lowest takes the first of them, at the bounds or \
+        "'malxuqeed pieces' lists a start of every surface of a volume, and --start lowest takes the first of them, at the bounds or \
          not; a cube with a corner of -32768, the scanner's fill, is no start. If it lists none, the level or the sign of the \
          samples is wrong: air is above 0, solid is 0 and below; or fill covers all that the surface passes through.",
+    )
+    .of_pieces(
+        "there is no piece: the surface passes through no cube free of the fill",
+        "The level or the sign of the samples is wrong: air is above 0, solid is 0 and below; or fill covers all that the surface \
+         passes through. 'malxuqeed info' tells what the volume holds.",
     ),
     row(6, "VERTEX_ROOM", "the sheet has more vertices than there is room for", "Lend room for as many vertices as the answer counts."),
     row(7, "TRIANGLE_ROOM", "the sheet has more triangles than there is room for", "Lend room for as many triangles as the answer counts.")
@@ -199,6 +214,12 @@ pub const NUMBERS: [Number; 21] = [
         "Likely causes: the sheet was thinned, repaired or cut, or its writer stopped early. Do not use figures taken \
          from it; build the sheet anew.",
     ),
+    row(
+        20,
+        "PIECES",
+        "there are more pieces than the list has room for",
+        "Lend a list as long as the answer counts; one that is as long as there are cubes is never too short.",
+    ),
     placed(
         21,
         "GREY",
@@ -249,10 +270,10 @@ mod tests {
     #[test]
     fn every_number_of_the_documents_has_words() {
         let numbers: Vec<usize> = NUMBERS.iter().map(|row| row.number).collect();
-        let named = (1..=19).filter(|number| ![10, 13].contains(number)).chain([21, 22, 25, 26]);
+        let named = (1..=22).filter(|number| ![10, 13].contains(number)).chain([25, 26]);
         assert_eq!(numbers, named.collect::<Vec<_>>());
         for row in &NUMBERS {
-            for words in [Of::Sheet, Of::Stl, Of::Floats].map(|of| row.words(of)) {
+            for words in [Of::Sheet, Of::Stl, Of::Floats, Of::Pieces].map(|of| row.words(of)) {
                 assert!(!words.means.ends_with('.') && words.remedy.ends_with('.'), "{}", row.number);
             }
         }

@@ -1,6 +1,6 @@
 //! Work room and output room, by a lattice's sizes.
 
-use crate::abi::{Sizes, Work};
+use crate::abi::{Place, Sizes, Work};
 
 pub fn fits(sizes: Sizes) -> bool {
     [sizes.nx, sizes.ny, sizes.nz].iter().all(|axis| (2..=64).contains(axis))
@@ -23,6 +23,17 @@ pub fn cubes(sizes: Sizes) -> usize {
     } else {
         0
     }
+}
+
+/// The cube of a number, in a lattice whose sizes fit.
+pub fn cube(sizes: Sizes, number: usize) -> Place {
+    let (nx, ny) = (sizes.nx - 1, sizes.ny - 1);
+    Place { x: number % nx, y: number / nx % ny, z: number / nx / ny }
+}
+
+/// The number of a cube.
+pub fn cube_number(sizes: Sizes, cube: Place) -> usize {
+    cube.x + (sizes.nx - 1) * (cube.y + (sizes.ny - 1) * cube.z)
 }
 
 /// Numbers for as many vertex records as the lattice has edges: refusal 6 cannot come.

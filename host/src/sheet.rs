@@ -40,14 +40,8 @@ impl Sheet {
 
     /// The bytes of its file, or the writer's refusal.
     pub fn file(&self) -> Result<Vec<u8>, usize> {
-        let (nv, nt) = (self.vertices.len() / 4, self.triangles.len() / 3);
-        let mut bytes = vec![0; 16 * nv + 12 * nt + 24];
-        let wrote = abi::write(self.sizes, nv, nt, &self.vertices, &self.triangles, &mut bytes);
-        if wrote.number != 0 {
-            return Err(wrote.number);
-        }
-        bytes.truncate(wrote.bytes);
-        Ok(bytes)
+        let counts = [self.vertices.len() / 4, self.triangles.len() / 3];
+        file(self.sizes, counts, &self.vertices, &self.triangles)
     }
 
     pub fn records(&self) -> impl Iterator<Item = [i32; 4]> + '_ {
@@ -68,5 +62,39 @@ impl Sheet {
     /// The triangles by lattice edges.
     pub fn by_edges(&self) -> impl Iterator<Item = [i32; 3]> + '_ {
         self.corners().map(|triangle| triangle.map(|vertex| self.record(vertex)[0]))
+    }
+}
+
+/// The bytes of a file with so many vertices and triangles, or the writer's refusal.
+fn file(sizes: Sizes, [nv, nt]: [usize; 2], vertices: &[i32], triangles: &[u32]) -> Result<Vec<u8>, usize> {
+    let mut bytes = vec![0; 16 * nv + 12 * nt + 24];
+    let wrote = abi::write(sizes, nv, nt, vertices, triangles, &mut bytes);
+    if wrote.number != 0 {
+        return Err(wrote.number);
+    }
+    bytes.truncate(wrote.bytes);
+    Ok(bytes)
+}
+
+/// Room for the largest sheet of a lattice, which serves one sheet after another.
+pub struct Output {
+    vertices: Vec<i32>,
+    triangles: Vec<u32>,
+}
+
+impl Output {
+    pub fn new(sizes: Sizes) -> Output {
+        Output { vertices: vec![0; room::vertex_numbers(sizes)], triangles: vec![0; room::triangle_numbers(sizes)] }
+    }
+
+    /// Builds a sheet of a volume with these sizes; its file, or the refusal.
+    pub fn build(&mut self, volume: &Volume, start: Start, room: &mut Room) -> Result<(Built, Vec<u8>), usize> {
+        let lattice = volume.from(start);
+        let built = abi::build(lattice, &mut self.vertices, &mut self.triangles, room.lend(volume.sizes));
+        if built.number != 0 {
+            return Err(built.number);
+        }
+        let bytes = file(volume.sizes, [built.vertices, built.triangles], &self.vertices, &self.triangles)?;
+        Ok((built, bytes))
     }
 }

@@ -1,6 +1,6 @@
 //! Every function of the library with every argument distinct, so that two in each other's place are noticed.
 
-use host::abi::{self, Built, Got, Lattice, Level, Loaded, Place, Sizes, Start, Verdict, Work, Wrote};
+use host::abi::{self, Built, Found, Got, Lattice, Level, Loaded, Place, Sizes, Start, Verdict, Work, Wrote};
 
 const SIZES: [usize; 3] = [2, 3, 4];
 const START: [usize; 3] = [0, 1, 2];
@@ -258,4 +258,53 @@ fn convert() {
     assert_eq!(convert(Level::Fixed(2.0), 256, 5), (0, 0, vec![128, -320, 1024, -1472, 0, 80]));
     let wrong = [1.5, 3.25, f32::NAN, 7.75, f32::INFINITY];
     assert_eq!(abi::convert(halfway, 1, &wrong, &mut samples), Verdict { number: 21, place: 2 });
+}
+
+#[test]
+fn pieces() {
+    let samples = samples();
+    let [nx, ny, nz] = SIZES;
+    let sizes = Sizes { nx, ny, nz };
+    // the list is lent as the slice of triangles, of another length than the work room
+    let pieces = |sizes: Sizes, samples: &[i16], lent: &mut Lent, list: usize| {
+        let work = Work { words: &mut lent.words, waiting: &mut lent.waiting, slots: &mut lent.slots };
+        abi::pieces(sizes, samples, &mut lent.triangles[..list], work)
+    };
+    let cleared = || {
+        let mut lent = Lent::new();
+        lent.words[..CUBES].fill(0);
+        lent.waiting[..CUBES].fill(0);
+        lent.slots[..SLOTS].fill(0);
+        lent
+    };
+    let (mut lent, mut wanted) = (Lent::new(), cleared());
+    // air at (0,0,0) and at (0,1,2), whose lowest cube is (0,0,1): one cube on x, two on y, three on z
+    assert_eq!(pieces(sizes, &samples, &mut lent, 4), Found { number: 0, pieces: 2 });
+    (wanted.triangles[0], wanted.triangles[1]) = (0, 2);
+    assert_eq!(lent, wanted);
+    for list in [0, 1] {
+        let mut lent = Lent::new();
+        assert_eq!(pieces(sizes, &samples, &mut lent, list), Found { number: 20, pieces: 2 });
+        assert_eq!(lent, cleared());
+    }
+    let short: [Shorter; 3] = [
+        |lent| lent.words.truncate(CUBES - 1),
+        |lent| lent.waiting.truncate(CUBES - 1),
+        |lent| lent.slots.truncate(SLOTS - 1),
+    ];
+    for shorten in short {
+        let mut lent = Lent::new();
+        shorten(&mut lent);
+        let before = lent.clone();
+        assert_eq!(pieces(sizes, &samples, &mut lent, 0), Found { number: 3, pieces: 0 });
+        assert_eq!(lent, before);
+    }
+    let turned = Sizes { nx: 4, ny: 6, nz: 1 };
+    let refusals: [(Sizes, &[i16], usize); 3] =
+        [(turned, &samples, 1), (sizes, &samples[1..], 2), (sizes, &[0; 24], 5)];
+    for (sizes, samples, number) in refusals {
+        let mut lent = Lent::new();
+        assert_eq!(pieces(sizes, samples, &mut lent, 9), Found { number, pieces: 0 });
+        assert_eq!(lent, Lent::new());
+    }
 }

@@ -62,10 +62,26 @@ fn the_manual_has_every_number_and_every_command() {
             let line = format!("| {}, floats | {} | {} |\n", row.number, words.means, words.remedy);
             assert!(manual.contains(&line), "{line}");
         }
+        if let Some(words) = row.pieces {
+            let line = format!("| {}, pieces | {} | {} |\n", row.number, words.means, words.remedy);
+            assert!(manual.contains(&line), "{line}");
+        }
     }
-    for command in
-        ["from-raw", "convert", "info", "build", "check", "audit", "picture", "stl", "facets", "list", "show"]
-    {
+    for command in [
+        "from-raw",
+        "convert",
+        "info",
+        "pieces",
+        "build",
+        "build-all",
+        "check",
+        "audit",
+        "picture",
+        "stl",
+        "facets",
+        "list",
+        "show",
+    ] {
         assert!(manual.contains(&format!("`{command}")), "{command}");
     }
     for column in host::audit::csv::COLUMNS.split(',') {

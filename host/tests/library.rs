@@ -91,7 +91,7 @@ fn the_header_says_what_the_tool_says() {
         assert!(flat.contains(&format!("MALXUQEED_{} = {}", row.name, row.number)), "{}", row.name);
         let case = format!("case MALXUQEED_{}: return \"{}\";", row.name, row.means);
         assert!(flat.contains(&case), "{case}");
-        for words in [row.stl, row.floats].into_iter().flatten() {
+        for words in [row.stl, row.floats, row.pieces].into_iter().flatten() {
             let own = format!("case MALXUQEED_{}: return \"{}\";", row.name, words.means);
             assert!(words.means == row.means || flat.contains(&own), "{own}");
         }

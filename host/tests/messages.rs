@@ -40,7 +40,7 @@ fn each_refusal_names_its_files_and_values() {
     says(
         "list p.vol --start 1,0,0",
         "refused 5",
-        &["all eight corners of cube 1,0,0 of p.vol are solid", "malxuqeed info"],
+        &["all eight corners of cube 1,0,0 of p.vol are solid", "start at 0,0,0 and 3,0,0", "malxuqeed pieces"],
     );
     folder.put("air.vol", &volume([2, 2, 2], &[7, 8, 9, 9, 9, 9, 9, 9]));
     says("list air.vol", "refused 5", &["no surface is in air.vol: its samples are 7 to 9, all air"]);

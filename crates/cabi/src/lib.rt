@@ -8,6 +8,7 @@ use paper::Sizes;
 use paper::Start;
 use paper::Verdict;
 use paper::Wrote;
+use pieces::Found;
 use stl::Loaded;
 ghost use mathlib.Core.Path.{_≡_};
 ghost use Rattle.paper.specs.Lattice.{lattice};
@@ -17,6 +18,7 @@ ghost use Rattle.paper.specs.File.{Writes, Reads};
 ghost use Rattle.paper.specs.Check.{Checks};
 ghost use Rattle.stl.specs.Stl.{StlWrites, StlReads};
 ghost use Rattle.floats.specs.Convert.{Converts};
+ghost use Rattle.pieces.specs.Pieces.{lent as listLent, Finds};
 ghost use Rattle.cabi.specs.Named.{startIf, levelIf};
 
 // The start that a number and a place name: 0 none, 1 the lowest crossed cube, any other number the cube at the place.
@@ -146,4 +148,21 @@ pub extern "C" fn malxuqeed_convert(
 {
     let level = level_if(halfway, grey, material);
     floats::convert(voxels, level, scale, samples)
+}
+
+#[no_mangle]
+pub extern "C" fn malxuqeed_pieces(
+    sizes: Sizes,
+    samples: &[i16],
+    list: &mut [u32],
+    words: &mut [u16],
+    waiting: &mut [u32],
+    slots: &mut [u32],
+) -> Found
+    ensures { λ r.
+        let before = listLent (now (list .entry)) (work (now (words .entry)) (now (waiting .entry)) (now (slots .entry))) in
+        let after = listLent (now (list .exit)) (work (now (words .exit)) (now (waiting .exit)) (now (slots .exit))) in
+        ⌜ Finds (lattice sizes (now (samples .entry))) before r after ⌝ }
+{
+    pieces::find(samples, sizes, list, words, waiting, slots)
 }

@@ -4,14 +4,14 @@
 -- the statements name. Assumes nothing.
 use mathlib.Core.Path.{_≡_, ap, _∙_}
 use mathlib.Core.List.{List}
-use mathlib.Core.Bool.{true, false, _&&_}
+use mathlib.Core.Bool.{Bool, true, false, _&&_}
 use Prim.Native.Nat.{ℕ, _+_, _*_, _<_, _≤_}
 use lib.IntN.{ℤ, pos, negsuc}
 use lib.Signed.{ltZ}
 use lib.Dec.{T}
 use lib.ListN.{length, getD, take}
 use lib.Ieee.{Float, nan, binary32, ofBits, toBits, sub, lt}
-use Rattle.lists.specs.Lists.{range, each, all, over, isIn}
+use Rattle.lists.specs.Lists.{range, each, all, over, count, isIn}
 use Rattle.paper.specs.declared.Sizes.{Sizes}
 use Rattle.paper.specs.declared.Place.{Place}
 use Rattle.paper.specs.declared.Start.{Start}
@@ -20,8 +20,8 @@ use Rattle.paper.specs.declared.Built.{Built}
 use Rattle.paper.specs.declared.Wrote.{Wrote}
 use Rattle.paper.specs.declared.Got.{Got}
 use Rattle.paper.specs.declared.Verdict.{Verdict}
-use Rattle.paper.specs.Lattice.{Lattice, fillAt, noFill, cubeAt, corner, visited, inLattice, faces, inside}
-use Rattle.paper.specs.Within.{CubeIn}
+use Rattle.paper.specs.Lattice.{Lattice, fillAt, noFill, cubes, cubeAt, corner, crossed, visited, inLattice, faces, inside}
+use Rattle.paper.specs.Within.{Sized, CubeIn}
 use Rattle.paper.specs.Sheet.{sheetOf, vertexWords, triangleWords}
 use Rattle.paper.specs.Tests.{judge, verdict}
 use Rattle.paper.specs.Room.{Work, Lengths, lengths, vertexRoom, triangleRoom}
@@ -38,6 +38,12 @@ use Rattle.stl.specs.declared.Loaded.{Loaded}
 use Rattle.stl.specs.Stl.{nineOf, StlWrites, stlFacet, StlReads}
 use Rattle.stl.proofs.Promises.{Exactly as CornerOf, Returned as StlReturned}
 use Rattle.stl.proofs.Promises as stl
+use Rattle.pieces.specs.declared.Found.{Found}
+use Rattle.pieces.specs.Pieces.{lowestCubes, plainScan, Lent as ListLent, Finds}
+use Rattle.pieces.proofs.Scanning as scanning
+use Rattle.pieces.proofs.Demand as searches
+use Rattle.blocks.specs.Blocks.{inBlock, OneSided}
+use Rattle.blocks.proofs.Alike as blocks
 use Rattle.floats.specs.declared.Level.{Level}
 use Rattle.floats.specs.Level.{levelOf}
 use Rattle.floats.specs.Sample.{none}
@@ -222,6 +228,54 @@ stl-taken = stl.taken-bits
 
 pub stl-takes : (b n : ℕ) → n ≤ 4128768 → b ≡ toBits binary32 (floatOf n) → isImage (ofBits binary32 b) ≡ true
 stl-takes = stl.bits-taken
+
+-- ── document 02 (v): "Every piece on the tray"; the contract is `Finds` (pieces/specs) ──
+
+-- the answer, the list and every work slice are settled
+pub one-search : {L : Lattice} {before : ListLent} {r r′ : Found} {after after′ : ListLent}
+    → Finds L before r after → Finds L before r′ after′ → (r ≡ r′) × (after ≡ after′)
+one-search = searches.finds-agree
+
+module _ {L : Lattice} {before : ListLent} {r : Found} {after : ListLent} (f : Finds L before r after) where
+  -- "the lowest cube of each separate piece, by rising number, written to a lent list of u32", and how many they are
+  pub pieces-listed : r .number ≡ 0 → (after .list ≡ over (lowestCubes L) (before .list)) × (r .pieces ≡ length (lowestCubes L))
+  pieces-listed = searches.listed f
+
+  -- "5 for no piece": no cube is crossed
+  pub pieces-none : r .number ≡ 5 → (k : ℕ) → k < cubes (L .size) → crossed L k ≡ false
+  pieces-none = searches.none-crossed f
+
+  -- "20 for more pieces than the list holds", and how many they are
+  pub pieces-many : r .number ≡ 20 → (r .pieces ≡ length (lowestCubes L)) × (length (before .list) < length (lowestCubes L))
+  pieces-many = searches.too-many f
+
+  -- "the list untouched"
+  pub pieces-refused : (r .number ≡ 0 → ⊥) → after .list ≡ before .list
+  pieces-refused = searches.untouched f
+
+module _ (L : Lattice) (s : Sized (L .size)) where
+  -- "The list equals a plain scan's."
+  pub pieces-scan : plainScan L ≡ lowestCubes L
+  pieces-scan = scanning.scan-lowest L s
+
+  -- each listed cube is crossed, and the lowest of its piece
+  pub pieces-lowest : (c : ℕ) → T (isIn (plainScan L) c)
+      → T (crossed L c) × (c < cubes (L .size)) × ((j : ℕ) → T (isIn (visited L c) j) → c ≤ j)
+  pieces-lowest = scanning.listed-lowest L s
+
+  -- every crossed cube lies in exactly one listed piece
+  pub pieces-once : (k : ℕ) → k < cubes (L .size) → T (crossed L k) → count (λ c. isIn (visited L c) k) (plainScan L) ≡ 1
+  pieces-once = scanning.one-piece L s
+
+  -- no cube of a listed piece holds the fill
+  pub pieces-free : (c : ℕ) → T (isIn (plainScan L) c) → (k : ℕ) → T (isIn (visited L c) k) → (i : ℕ) → i < 8
+      → fillAt L (corner (cubeAt (L .size) k) i) ≡ false
+  pieces-free c t = let w = scanning.listed-lowest L s c t in filling.visited-free L c (w .1) (w .0)
+
+  -- "a block whose samples are all on one side is passed over": no cube of it is crossed
+  pub block-passed : (b : Place) (n : ℕ) → OneSided L b n → (k : ℕ) → k < cubes (L .size) → T (inBlock b n (cubeAt (L .size) k))
+      → crossed L k ≡ false
+  block-passed = blocks.one-side-none L s
 
 -- ── document 02 (vii): volumes in f32; the contract is `Converts` (floats/specs) ──
 

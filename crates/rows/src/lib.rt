@@ -238,7 +238,7 @@ pub fn to_look_at(m: u64, n: usize) -> usize
 }
 
 // The crossed cubes at y and z.
-fn crossed_cubes(rows: &[u64], may: &[u64], sizes: Sizes, y: usize, z: usize) -> u64
+pub fn crossed_cubes(rows: &[u64], may: &[u64], sizes: Sizes, y: usize, z: usize) -> u64
     requires { ⌜ Sized sizes × (sizes .ny * sizes .nz ≤ length (now rows)) × (sizes .ny * sizes .nz ≤ length (now may)) ⌝ }
     requires { ⌜ (y + 1 < sizes .ny) × (z + 1 < sizes .nz) ⌝ }
     ensures { λ r.

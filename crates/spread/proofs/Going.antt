@@ -18,7 +18,7 @@ use Rattle.bits.proofs.Places.{on-bit, bit-on, on-and, and-on, on-or-left, on-o
 use Rattle.spread.specs.Along.{Along, begun, up, down, Filled}
 use Rattle.spread.specs.Plan.{Plan}
 use Rattle.spread.specs.Flow.{Flow, flow, wait, sends, Roomy}
-use Rattle.spread.proofs.Laws.{set-cases, blank-set, lit, lit-set, lit-le, lit-none, wait-elim, wait-keeps, wait-adds, wait-only, Kept, wait-room, wait-kept, sends-kept, sends-none}
+use Rattle.spread.proofs.Laws.{set-cases, blank-set, lit, lit-set, lit-le, wait-elim, wait-keeps, wait-adds, wait-only, Kept, wait-room, wait-kept, sends-kept, sends-none}
 
 -- row r stands below h in w
 abbrev pub Waits : List ℕ → ℕ → ℕ → Type 0
@@ -235,11 +235,13 @@ module _ (P : Plan) (Reached : ℕ → ℕ → Type 0) where
           rw (getD-set-same vis r (bitOr v fresh) 0 in-vis)
           (⊎-elim (on-or-left v fresh x) (on-or-right v fresh x) (less-cases full v x (g .words r r-lt) hx p))
 
+      pub pop-keeps : (q x : ℕ) → On (getD vis q 0) x → On (getD vis′ q 0) x
+      pop-keeps q x p =
+          ⊎-elim (λ a. rw (a .1) (on-or-left v fresh x (subst (λ (i : ℕ). On (getD vis i 0) x) (a .0) p))) (λ a. rw (a .1) p)
+          (set-cases vis r (bitOr v fresh) q in-vis)
+
       pub pop-stays : (q x : ℕ) → x < 64 → Lands vis due q x → Lands vis′ due′ q x
-      pop-stays q x hx (inl p) =
-          inl
-          (⊎-elim (λ a. rw (a .1) (on-or-left v fresh x (subst (λ (i : ℕ). On (getD vis i 0) x) (a .0) p))) (λ a. rw (a .1) p)
-          (set-cases vis r (bitOr v fresh) q in-vis))
+      pop-stays q x hx (inl p) = inl (pop-keeps q x p)
       pop-stays q x hx (inr p) =
           ⊎-elim
           (λ a.
@@ -309,29 +311,38 @@ module _ (P : Plan) (Reached : ℕ → ℕ → Type 0) where
 
   -- ── as the loop bit it ──
 
-  -- cube x of row q was the first, seen cubes are visited so far
+  -- words as they stand before: what they mark is reached, and every step from it leads to what they mark
+  pub record Settled (vis : List ℕ) : Type 0 where
+    pub fit : n ≤ length vis
+    pub words : (r : ℕ) → r < n → getD vis r 0 < 2 ^ 64
+    pub known : (r x : ℕ) → r < n → x < 64 → On (getD vis r 0) x → Reached r x
+    pub rises : (r x : ℕ) → r < n → suc x < 64 → On (gate r) (suc x) → On (getD vis r 0) x → On (getD vis r 0) (suc x)
+    pub falls : (r x : ℕ) → r < n → suc x < 64 → On (gate r) (suc x) → On (getD vis r 0) (suc x) → On (getD vis r 0) x
+    pub goes : (r x j : ℕ) → r < n → x < 64 → j < 4 → On (door r j) x → On (getD vis r 0) x → On (getD vis (beside r j) 0) x
+
+  -- cube x of row q was the first, seen cubes are visited since
   pub record Turn (q x : ℕ) (vis₀ due₀ w₀ vis : List ℕ) (s : Flow) (seen : ℕ) : Type 0 where
     pub going : Going 0 0 4 vis s
     pub begun : Lands vis (s .due) q x
-    pub count : seen ≡ lit n vis
+    pub older : (r y : ℕ) → On (getD vis₀ r 0) y → On (getD vis r 0) y
+    pub count : lit n vis₀ + seen ≡ lit n vis
     pub on-vis : Beyond n vis₀ vis
     pub on-due : Beyond n due₀ (s .due)
     pub on-waiting : Beyond (P .room) w₀ (s .waiting)
 
   module _ (G : Ground P Reached) where
-    -- nothing is visited, one cube is due
-    module _ (q x : ℕ) (vis due w : List ℕ) (row : Row q) (hx : x < 64) (first : Reached q x) (fit : n ≤ length vis)
-        (room : Roomy n (P .room) (P .isRow) (flow due w 0)) (no-vis : (r : ℕ) → r < n → getD vis r 0 ≡ 0)
-        (no-due : (r : ℕ) → r < n → getD due r 0 ≡ 0) where
+    -- one cube is due
+    module _ (q x : ℕ) (vis due w : List ℕ) (row : Row q) (hx : x < 64) (first : Reached q x) (old : Settled vis)
+        (room : Roomy n (P .room) (P .isRow) (flow due w 0)) (no-due : (r : ℕ) → r < n → getD due r 0 ≡ 0) where
       empty-going : Going 0 0 4 vis (flow due w 0)
       empty-going = record {
         roomy = room;
-        vis-fit = fit;
-        words = λ r h. rw (no-vis r h) (omega arith);
-        sound = λ r y h _ p. ⊎-elim (λ a. absurd (on-zero y (rw (no-vis r h) at a))) (λ a. absurd (on-zero y (rw (no-due r h) at a))) p;
-        rising = λ r y h _ _ p. absurd (on-zero y (rw (no-vis r h) at p));
-        falling = λ r y h _ _ p. absurd (on-zero (suc y) (rw (no-vis r h) at p));
-        across = λ r y j h _ _ _ p. absurd (on-zero y (rw (no-vis r h) at p));
+        vis-fit = old .fit;
+        words = old .words;
+        sound = λ r y h hy p. ⊎-elim (old .known r y h hy) (λ a. absurd (on-zero y (rw (no-due r h) at a))) p;
+        rising = λ r y h hy g p. inl (old .rises r y h hy g p);
+        falling = λ r y h hy g p. inl (old .falls r y h hy g p);
+        across = λ r y j h hy hj d p. inl (inl (old .goes r y j h hy hj d p));
         waits = λ i h. absurd (omega arith);
         listed = λ r h. inl (no-due r h);
       }
@@ -345,7 +356,8 @@ module _ (P : Plan) (Reached : ℕ → ℕ → Type 0) where
         begun =
             rw e
             (inr (wait-adds q (2 ^ x) (flow due w 0) (in-due G 0 0 4 vis (flow due w 0) empty-going q (2 ^ x) row) x (on-bit x)));
-        count = sym (lit-none n vis no-vis);
+        older = λ r y p. p;
+        count = omega arith;
         on-vis = beyond-refl n vis;
         on-due = beyond-refl n (t .due);
         on-waiting = beyond-refl (P .room) (t .waiting);
@@ -382,7 +394,7 @@ module _ (P : Plan) (Reached : ℕ → ℕ → Type 0) where
         pub turn-roomy : Roomy n (P .room) (P .isRow) popped
         turn-roomy = going-popped .roomy
 
-        pub turn-count : seen + ones new ≡ lit n grown
+        pub turn-count : lit n vis₀ + (seen + ones new) ≡ lit n grown
         turn-count =
             omega (
               arith,
@@ -422,6 +434,7 @@ module _ (P : Plan) (Reached : ℕ → ℕ → Type 0) where
                 rw s
                 (sends-stays G at new grown popped turn-row (fresh-reached G 0 0 vis due w i more full l F) going-popped 4 (omega arith) q x
                 (pop-stays G 0 0 vis due w i more full l F q x hx (u .begun)));
+            older = λ r y p. pop-keeps G 0 0 vis due w i more full l F r y (u .older r y p);
             count = turn-count;
             on-vis = beyond-trans (u .on-vis) (beyond-set n vis at (bitOr (getD vis at 0) new) (G .row-lt at turn-row));
             on-due =

@@ -253,12 +253,3 @@ pub sends-none : (vis : List ℕ) (door beside : ℕ → ℕ) (k : ℕ) (s : Flo
 unfolding sends
 sends-none vis door beside zero s = refl
 sends-none vis door beside (suc k) s = wait-none (beside k) 0 (sends vis door beside 0 k s) refl ∙ sends-none vis door beside k s
-
--- words that are 0 have no place
-pub lit-none : (n : ℕ) (m : List ℕ) → ((r : ℕ) → r < n → getD m r 0 ≡ 0) → lit n m ≡ 0
-unfolding lit
-lit-none zero m f = refl
-lit-none (suc n) [] f = refl
-lit-none (suc n) (x ∷ xs) f =
-    let ih = lit-none n xs (λ r h. f (suc r) (omega arith)) in
-    omega (arith, ap ones (f 0 (omega arith)), ones-zero, ih)

@@ -1,6 +1,7 @@
 -- The turns of a flood along the gates and doors of words. Assumes nothing.
 use mathlib.Core.Path.{_≡_, ap, subst, _∙_}
 use mathlib.Core.List.{List}
+use mathlib.Core.Logic.{inr}
 use Prim.Native.Nat.{ℕ, suc, _+_, _-_, _*_, _%_, _^_, _≤_, _<_}
 use native.Mathlib.Omega.{arith}
 use lib.Count.{ones}
@@ -18,31 +19,35 @@ use Rattle.spread.specs.Along.{Filled}
 use Rattle.spread.specs.Plan.{Plan}
 use Rattle.spread.specs.Flow.{Flow, flow, wait, sends, Roomy}
 use Rattle.spread.specs.Ways.{gateAt, doorBy, besideBy, doorAt, besideAt, words, rowsOf, isRow, RowIn, planOf}
-use Rattle.spread.specs.Flooded.{Empty, cell, room, Flooded}
+use Rattle.spread.specs.Flooded.{Empty, Closed, cell, room, Flooded}
 use Rattle.spread.proofs.Laws.{lit, blank-le, Kept, wait-kept}
 use Rattle.spread.proofs.Going.{Ground, Turn, turn-start, turn-row, turn-roomy, turn-count, turn-bound, turn-less, turn}
-use Rattle.spread.proofs.Finish.{Reached, ground, finished, emptied}
+use Rattle.spread.proofs.Finish.{Reached, ground, settled, finished, emptied}
 use Rattle.spread.proofs.Ways.{row-lt, row-on, row-test, row-in, rows-count, into, words-le}
 
 module _ (z : Sizes) (rows may : List ℕ) (q x : ℕ) where
   abbrev P : Plan
   P = planOf z rows may
 
-  abbrev Reaches : ℕ → ℕ → Type 0
-  Reaches = Reached P q x
+  module _ (vis₀ : List ℕ) where
+    abbrev Reaches : ℕ → ℕ → Type 0
+    Reaches = Reached P q x vis₀
 
-  grounded : Ground P Reaches
-  grounded =
-      ground P q x (λ r h. row-lt z r (row-in z r h))
-      (λ r k h _. row-test z (besideAt z rows r k) (row-on z (quadAt rows (z .ny) r) r k (row-in z r h)))
+    grounded : Closed P vis₀ → Ground P Reaches
+    grounded =
+        ground P q x vis₀ (λ r h. row-lt z r (row-in z r h))
+        (λ r k h _. row-test z (besideAt z rows r k) (row-on z (quadAt rows (z .ny) r) r k (row-in z r h)))
 
-  -- the invariant of the loop
-  abbrev pub Flooding : List ℕ → List ℕ → List ℕ → List ℕ → Flow → ℕ → Type 0
-  Flooding = Turn P Reaches q x
+    -- the invariant of the loop
+    abbrev pub Flooding : List ℕ → List ℕ → List ℕ → Flow → ℕ → Type 0
+    Flooding = Turn P Reaches q x vis₀
 
   module _ (sized : Sized z) (row : RowIn z q) (hx : x < 64) where
     small : words z < 2 ^ 32
     small = omega (arith, words-le z sized)
+
+    into-words : (r k : ℕ) → r < words z → k < 4 → besideAt z rows r k < words z
+    into-words r k h _ = into z (quadAt rows (z .ny) r) r k (omega (arith, sized .y-low)) h
 
     pub roomy-start : (due w : List ℕ) → Empty (words z) due → rowsOf z ≤ length w → Roomy (words z) (rowsOf z) (isRow z) (flow due w 0)
     roomy-start due w e h = record {
@@ -58,19 +63,23 @@ module _ (z : Sizes) (rows may : List ℕ) (q x : ℕ) where
     first-kept due w m t e h p = rw p (wait-kept (words z) (rowsOf z) (isRow z) q m (flow due w 0) (roomy-start due w e h)
         (row-lt z q row) (row-test z q row))
 
-    pub flooding-start : (vis due w : List ℕ) (t : Flow) → Empty (words z) vis → Empty (words z) due → rowsOf z ≤ length w
+    pub flooding-start : (vis due w : List ℕ) (t : Flow) → Closed P vis → Empty (words z) due → rowsOf z ≤ length w
         → t ≡ wait q ((1 * 2 ^ x) % 2 ^ 64) (flow due w 0) → Flooding vis (t .due) (t .waiting) vis t 0
     flooding-start vis due w t a b h p =
-        turn-start P Reaches grounded q x vis due w (row-test z q row) hx here (a .fit)
-        (roomy-start due w b h) (a .none) (b .none) t (p ∙ ap (λ (m : ℕ). wait q m (flow due w 0)) (shifted-one x hx))
+        turn-start P (Reaches vis) (grounded vis a) q x vis due w (row-test z q row) hx (inr here) (settled P q x vis a into-words)
+        (roomy-start due w b h) (b .none) t (p ∙ ap (λ (m : ℕ). wait q m (flow due w 0)) (shifted-one x hx))
 
     -- one turn
-    module _ (vis₀ due₀ w₀ vis due w : List ℕ) (h i seen : ℕ) (e : h ≡ suc i) (u : Flooding vis₀ due₀ w₀ vis (flow due w h) seen) where
+    module _ (vis₀ : List ℕ) (C : Closed P vis₀) (due₀ w₀ vis due w : List ℕ) (h i seen : ℕ) (e : h ≡ suc i)
+        (u : Flooding vis₀ due₀ w₀ vis (flow due w h) seen) where
+      G : Ground P (Reaches vis₀)
+      G = grounded vis₀ C
+
       abbrev at : ℕ
       at = getD w i 0
 
       pub at-row : RowIn z at
-      at-row = row-in z at (turn-row P Reaches grounded q x vis₀ due₀ w₀ vis due w h i seen hx e u)
+      at-row = row-in z at (turn-row P (Reaches vis₀) G q x vis₀ due₀ w₀ vis due w h i seen hx e u)
 
       -- the four words around it, its gates, and what they lead to
       module _ (four : Quad) (is : four ≡ quadAt rows (z .ny) at) (gates full : ℕ) (by : gates ≡ gateRow four (getD may at 0)) (l : full < 2 ^ 64)
@@ -92,14 +101,14 @@ module _ (z : Sizes) (rows may : List ℕ) (q x : ℕ) where
 
         pub at-roomy : Roomy (words z) (rowsOf z) (isRow z) popped
         at-roomy =
-            turn-roomy P Reaches grounded q x vis₀ due₀ w₀ vis due w h i seen hx e u full l F′
+            turn-roomy P (Reaches vis₀) G q x vis₀ due₀ w₀ vis due w h i seen hx e u full l F′
 
         pub seen-le : seen + ones new ≤ 262144
         seen-le =
             omega (
               arith,
-              turn-count P Reaches grounded q x vis₀ due₀ w₀ vis due w h i seen hx e u full l F′,
-              turn-bound P Reaches grounded q x vis₀ due₀ w₀ vis due w h i seen hx e u full l F′,
+              turn-count P (Reaches vis₀) G q x vis₀ due₀ w₀ vis due w h i seen hx e u full l F′,
+              turn-bound P (Reaches vis₀) G q x vis₀ due₀ w₀ vis due w h i seen hx e u full l F′,
               words-le z sized,
             )
 
@@ -109,28 +118,25 @@ module _ (z : Sizes) (rows may : List ℕ) (q x : ℕ) where
 
           pub less-left : 5 * (64 * words z - lit (words z) grown) + t .height < 5 * (64 * words z - lit (words z) vis) + h
           less-left =
-              turn-less P Reaches grounded q x vis₀ due₀ w₀ vis due w h i seen hx e u full l F′ t s′
+              turn-less P (Reaches vis₀) G q x vis₀ due₀ w₀ vis due w h i seen hx e u full l F′ t s′
 
           pub flooding-more : (k : ℕ) → k ≡ ones new → Flooding vis₀ due₀ w₀ grown t (seen + k)
           flooding-more k c =
               rw c
-              (turn P Reaches grounded q x vis₀ due₀ w₀ vis due w h i seen hx e u full l F′ t s′)
+              (turn P (Reaches vis₀) G q x vis₀ due₀ w₀ vis due w h i seen hx e u full l F′ t s′)
 
     -- the loop is left
-    module _ (vis₀ due₀ w₀ vis₁ w₁ vis : List ℕ) (s : Flow) (seen : ℕ) (e : s .height ≡ 0) (u : Flooding vis₁ due₀ w₁ vis s seen)
-        (b : Beyond (words z) vis₀ vis₁) (d : Beyond (rowsOf z) w₀ w₁) where
-      into-words : (r k : ℕ) → r < words z → k < 4 → besideAt z rows r k < words z
-      into-words r k h _ = into z (quadAt rows (z .ny) r) r k (omega (arith, sized .y-low)) h
-
+    module _ (vis₀ : List ℕ) (C : Closed P vis₀) (due₀ w₀ w₁ vis : List ℕ) (s : Flow) (seen : ℕ) (e : s .height ≡ 0)
+        (u : Flooding vis₀ due₀ w₁ vis s seen) (d : Beyond (rowsOf z) w₀ w₁) where
       pub flooding-done : Flooded P (cell q x) (room vis₀ w₀) (room vis (s .waiting)) seen
       flooding-done =
-          finished P q x grounded hx (row-lt z q row) into-words vis₀ due₀ w₀ vis₁ w₁
-          vis s seen e u b d
+          finished P q x vis₀ C (grounded vis₀ C) hx (row-lt z q row) into-words due₀ w₀ w₁
+          vis s seen e u d
 
       pub due-done : Empty (words z) (s .due)
       due-done = record {
         fit = u .going .roomy .due-fit;
         none =
-            emptied P q x grounded hx (row-lt z q row) into-words vis₀ due₀ w₀ vis₁ w₁
-            vis s seen e u b d;
+            emptied P q x vis₀ C (grounded vis₀ C) hx (row-lt z q row) into-words due₀ w₀ w₁
+            vis s seen e u d;
       }

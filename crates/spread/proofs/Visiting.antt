@@ -1,18 +1,19 @@
 -- Where the gates and doors of a plan mean document 01's faces, a flood along it leaves document 01's visited cubes. Assumes nothing.
 use mathlib.Core.Path.{_≡_, refl, sym, ap, ap₂, subst, _∙_}
-use mathlib.Core.Bool.{Bool, true, false, _&&_}
-use mathlib.Core.List.{List, [], map, map-map, List·Memᴰ as In}
+use mathlib.Core.Bool.{Bool, true, false, not, _&&_, _||_, and-false}
+use mathlib.Core.List.{List, [], _∷_, _++_, map, map-map, List·Memᴰ as In}
+use mathlib.Core.Logic.{⊎-elim}
 use Prim.Native.Nat.{ℕ, zero, suc, _+_, _-_, _*_, _/_, _%_, _≤_, _<_}
 use native.Mathlib.Nat.{mul-comm}
 use native.Mathlib.Omega.{arith}
-use lib.Dec.{T, eqb, ltb, ltb→lt, lt→ltb, eqb→eq}
+use lib.Dec.{T, eqb, ltb, ltb→lt, lt→ltb, eqb→eq, eqb-refl}
 use lib.Arith.{digits-mod, digits-div}
 use lib.ListN.{length, getD}
-use Rattle.lists.specs.Lists.{range, keep, each, isIn, any, count}
+use Rattle.lists.specs.Lists.{range, consIf, keep, each, isIn, any, count}
 use Rattle.lists.specs.Reach.{Reach, here, step, reached}
-use Rattle.lists.proofs.Member.{and3, both3, and-both, and-left, and-right, any-each, in-any, in-consIf, consIf-in}
+use Rattle.lists.proofs.Member.{T→eq, or-cases, or-left, or-right, and3, both3, and-both, and-left, and-right, any-append, any-each, in-any, in-consIf, consIf-in}
 use Rattle.lists.proofs.Every.{any-at, at-any}
-use Rattle.lists.proofs.Closure.{bool-same, sound, complete, reached-kept}
+use Rattle.lists.proofs.Closure.{bool-same, sound, complete, reached-kept, reached-lt}
 use Rattle.lists.proofs.Rising.{keep-rising}
 use Rattle.lists.proofs.Within.{list-in, in-list, eqb-of, in-all-test}
 use Rattle.lists.proofs.Counts.{Unique, rising-unique, count-unique, few, matched}
@@ -24,10 +25,10 @@ use Rattle.paper.proofs.Numbers.{cube-inside, cube-back, cube-place, cube-lt}
 use Rattle.paper.proofs.Visits.{in-lattice, lattice-in, visitable-in, Exactly, visited-exactly, visited-kept, visited-lt}
 use Rattle.paper.proofs.Steps.{face-shared}
 use Rattle.bits.specs.Words.{bit, On}
-use Rattle.bits.proofs.Bits.{bit-lt}
-use Rattle.rows.specs.Rows.{rowNo, isOneOf}
+use Rattle.bits.proofs.Bits.{bit-of-0, bit-lt}
+use Rattle.rows.specs.Rows.{rowNo, isOneOf, HasCubes}
 use Rattle.spread.specs.Plan.{Plan}
-use Rattle.spread.specs.Flooded.{Room, cell, steps as rowSteps, Flooded, Visits}
+use Rattle.spread.specs.Flooded.{Empty, Room, cell, steps as rowSteps, marks, Flooded, Visits}
 use Rattle.spread.proofs.Finish.{cell-row, cell-place, Stepped, rose, fell, went, from-cell, by-cell, steps-lt}
 
 -- ── steps over faces ──
@@ -286,42 +287,72 @@ module _ (L : Lattice) (s : Sized (L .size)) (P : Plan) (J : Joined L P) where
     row-in : (q : Place) → CubeIn z q → rowNo z q < P .size
     row-in q i = J .within (q .y) (q .z) (omega (arith, i .y)) (omega (arith, i .z))
 
-    bit-is : (q : Place) → CubeIn z q → bit (getD vis (rowNo z q) 0) (q .x) ≡ isIn (visited L start) (cubeNo z q)
-    bit-is q i =
-        let f = F .marked (rowNo z q) (q .x) (row-in q i) (x-lt q i) in
-        let v = visited-exactly L start (cube-lt z p start-in) (cubeNo z q) in
-        bool-same (bit (getD vis (rowNo z q) 0) (q .x)) (isIn (visited L start) (cubeNo z q))
-        (λ t.
-        let a = to-cubes p free (f .within t) in
-        let e = cell-same q (a .0) i (visitable-in L (a .0) (a .1)) (a .2) in
-        v .listed (subst (λ (c : Place). Visited L start (cubeNo z c)) (sym e) (a .3)))
-        (λ t.
-        let a = to-rows p free (v .reached t) in
-        let e = cube-same q (a .0) i (visitable-in L (a .0) (a .1)) (a .2) in
-        f .whole (subst (λ (c : Place). Reach next (cellOf p) (cellOf c)) (sym e) (a .3)))
+    -- the words had the cubes of vs before: they have those and the visited ones
+    module _ (vs : List ℕ) (old : HasCubes z vs (before .vis)) where
+      abbrev both : List ℕ
+      both = vs ++ visited L start
 
-    -- a place of a word is that of a cube
-    only-is : (y w x : ℕ) → y < z .ny → w < z .nz → On (getD vis (y + z .ny * w) 0) x → CubeIn z (place x y w)
-    only-is y w x hy hw t =
-        let r = y + z .ny * w in
-        let hr = J .within y w hy hw in
-        let hx = bit-lt (getD vis r 0) 64 x (F .fits r hr) t in
-        let a = to-cubes p free (F .marked r x hr hx .within t) in
-        let q = a .0 in
-        let i = visitable-in L q (a .1) in
-        let e = a .2 in
-        let l = x-lt q i in
-        subst (CubeIn z) (same-row z q (place x y w) (omega (arith, i .y)) hy (omega arith) (omega arith)) i
+      both-is : (k : ℕ) → isIn both k ≡ (isIn vs k || isIn (visited L start) k)
+      both-is k = any-append (eqb k) vs (visited L start)
 
-    at-place : (y w x : ℕ) → y < z .ny → w < z .nz → bit (getD vis (y + z .ny * w) 0) x ≡ isOneOf z (visited L start) (place x y w)
-    unfolding isOneOf
-    at-place y w x hy hw =
-        let q = place x y w in
-        let a = inLattice z q in
-        let b = isIn (visited L start) (cubeNo z q) in
-        bool-same (bit (getD vis (y + z .ny * w) 0) x) (a && b)
-        (λ t. let i = only-is y w x hy hw t in and-both a b (lattice-in z q i) (subst T (bit-is q i) t))
-        (λ t. let i = in-lattice z q (and-left a b t) in subst T (sym (bit-is q i)) (and-right a b t))
+      old-is : (q : Place) → CubeIn z q → bit (getD (before .vis) (rowNo z q) 0) (q .x) ≡ isIn vs (cubeNo z q)
+      unfolding isOneOf
+      old-is q i =
+          old .at (q .y) (q .z) (q .x) (omega (arith, i .y)) (omega (arith, i .z))
+          ∙ ap (λ (b : Bool). b && isIn vs (cubeNo z q)) (T→eq (inLattice z q) (lattice-in z q i))
+
+      bit-is : (q : Place) → CubeIn z q → bit (getD vis (rowNo z q) 0) (q .x) ≡ isIn both (cubeNo z q)
+      bit-is q i =
+          let k = cubeNo z q in
+          let f = F .marked (rowNo z q) (q .x) (row-in q i) (x-lt q i) in
+          let v = visited-exactly L start (cube-lt z p start-in) k in
+          bool-same (bit (getD vis (rowNo z q) 0) (q .x)) (isIn vs k || isIn (visited L start) k)
+          (λ t.
+          ⊎-elim (λ o. or-left (isIn vs k) (isIn (visited L start) k) (subst T (old-is q i) o))
+          (λ r.
+          let a = to-cubes p free r in
+          let e = cell-same q (a .0) i (visitable-in L (a .0) (a .1)) (a .2) in
+          or-right (isIn vs k) (isIn (visited L start) k)
+          (v .listed (subst (λ (c : Place). Visited L start (cubeNo z c)) (sym e) (a .3)))) (f .within t))
+          (λ t.
+          ⊎-elim (λ o. f .older (subst T (sym (old-is q i)) o))
+          (λ r.
+          let a = to-rows p free (v .reached r) in
+          let e = cube-same q (a .0) i (visitable-in L (a .0) (a .1)) (a .2) in
+          f .whole (subst (λ (c : Place). Reach next (cellOf p) (cellOf c)) (sym e) (a .3)))
+          (or-cases (isIn vs k) (isIn (visited L start) k) t))
+          ∙ sym (both-is k)
+
+      -- a place of a word is that of a cube
+      only-is : (y w x : ℕ) → y < z .ny → w < z .nz → On (getD vis (y + z .ny * w) 0) x → CubeIn z (place x y w)
+      unfolding isOneOf
+      only-is y w x hy hw t =
+          let r = y + z .ny * w in
+          let hr = J .within y w hy hw in
+          let hx = bit-lt (getD vis r 0) 64 x (F .closed .words r hr) t in
+          ⊎-elim (λ o. in-lattice z (place x y w) (and-left (inLattice z (place x y w)) (isIn vs (cubeNo z (place x y w)))
+          (subst T (old .at y w x hy hw) o)))
+          (λ m.
+          let a = to-cubes p free m in
+          let q = a .0 in
+          let i = visitable-in L q (a .1) in
+          let e = a .2 in
+          let l = x-lt q i in
+          subst (CubeIn z) (same-row z q (place x y w) (omega (arith, i .y)) hy (omega arith) (omega arith)) i)
+          (F .marked r x hr hx .within t)
+
+      at-place : (y w x : ℕ) → y < z .ny → w < z .nz → bit (getD vis (y + z .ny * w) 0) x ≡ isOneOf z both (place x y w)
+      unfolding isOneOf
+      at-place y w x hy hw =
+          let q = place x y w in
+          let a = inLattice z q in
+          let b = isIn both (cubeNo z q) in
+          bool-same (bit (getD vis (y + z .ny * w) 0) x) (a && b)
+          (λ t. let i = only-is y w x hy hw t in and-both a b (lattice-in z q i) (subst T (bit-is q i) t))
+          (λ t. let i = in-lattice z q (and-left a b t) in subst T (sym (bit-is q i)) (and-right a b t))
+
+      pub has-more : HasCubes z both vis
+      has-more = record { at = at-place }
 
     -- the cells that are reached match the visited cubes
     abbrev cells : List ℕ
@@ -379,5 +410,29 @@ module _ (L : Lattice) (s : Sized (L .size)) (P : Plan) (J : Joined L P) where
         (subst T (sym (matched (λ k u. eqb (cellNo k) u) (visited L start) cells one-cell one-cube))
         (in-all-test (λ u. any (λ k. eqb (cellNo k) u) (visited L start)) cells each-met))
 
-    pub visits : Visits L start vis n
-    visits = record { cubes = record { at = at-place }; number = F .number ∙ sym same-number }
+    -- the words marked nothing before
+    module _ (none : Empty (P .size) (before .vis)) where
+      no-cubes : HasCubes z [] (before .vis)
+      unfolding isOneOf
+      no-cubes = record {
+        at = λ y w x hy hw.
+            ap (λ (v : ℕ). bit v x) (none .none (y + z .ny * w) (J .within y w hy hw))
+            ∙ (bit-of-0 x ∙ sym (and-false (inLattice z (place x y w))));
+      }
+
+      all-new : (l : List ℕ) → ((k : ℕ) → T (isIn l k) → k < 64 * P .size) → keep (λ k. not (marks (before .vis) k)) l ≡ l
+      all-new [] h = refl
+      all-new (k ∷ l) h =
+          let m = h k (or-left (eqb k k) (isIn l k) (eqb-refl k)) in
+          let e : marks (before .vis) k ≡ false =
+          ap (λ (v : ℕ). bit v (k % 64)) (none .none (k / 64) (omega arith)) ∙ bit-of-0 (k % 64) in
+          ap (λ (b : Bool). consIf (not b) k (keep (λ k. not (marks (before .vis) k)) l)) e
+          ∙ ap (λ (m : List ℕ). k ∷ m) (all-new l (λ j t. h j (or-right (eqb j k) (isIn l j) t)))
+
+      pub visits : Visits L start vis n
+      visits = record {
+        cubes = has-more [] no-cubes;
+        number =
+            F .number
+            ∙ (ap length (all-new cells (reached-lt next (64 * P .size) (cellOf p))) ∙ sym same-number);
+      }

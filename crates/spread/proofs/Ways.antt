@@ -7,15 +7,18 @@ use native.Mathlib.Nat.{add-zero, add-mul, mul-suc, suc-mul, mul-comm, mul-pos, 
 use native.Mathlib.Omega.{arith}
 use lib.Dec.{ltb, ltb→lt, lt→ltb}
 use lib.Bits.{bitAnd}
-use lib.ListN.{length, getD, length-append}
+use lib.ListN.{length, getD, drop, length-append}
+use lib.Seq.{drop-drop}
 use lib.Arith.{digits-mod, digits-div}
 use borrow.Author.Tests.{ltb-true, le-ltb}
-use Rattle.lists.specs.Lists.{range, keep, consIf}
+use Rattle.lists.specs.Lists.{range, keep, consIf, Beyond}
 use Rattle.lists.proofs.Member.{T→eq, eq→T, and-both, and-left, and-right}
 use Rattle.lists.proofs.Runs.{range-join, keep-append}
 use Rattle.lists.proofs.Rising.{keep-le}
 use Rattle.lists.proofs.Closure.{length-range}
 use Rattle.paper.specs.declared.Sizes.{Sizes}
+use Rattle.paper.specs.Lattice.{cubes}
+use Rattle.paper.specs.Room.{needed}
 use Rattle.paper.specs.Within.{Sized}
 use Rattle.rows.specs.declared.Quad.{Quad}
 use Rattle.rows.specs.Rows.{faceRow}
@@ -247,3 +250,23 @@ module _ (z : Sizes) (s : Sized z) where
 
   pub rows-some : 0 < rowsOf z
   rows-some = mul-pos (omega (arith, s .y-low)) (omega (arith, s .z-low))
+
+-- ── room ──
+
+pub rows-few : (z : Sizes) → Sized z → rowsOf z ≤ needed z
+unfolding cubes
+rows-few z s =
+    let w : 1 ≤ z .nx - 1 = omega (arith, s .x-low) in
+    let m : rowsOf z ≤ rowsOf z = omega arith in
+    omega (arith, mul-le-mul {n₂ = z .nx - 1} {m₂ = rowsOf z} w m)
+
+-- past a longer front there is less to tell
+pub beyond-more : (m n : ℕ) (l₀ l : List ℕ) → m ≤ n → Beyond m l₀ l → Beyond n l₀ l
+beyond-more m n l₀ l h b =
+    let q : m + (n - m) ≡ n = omega arith in
+    record {
+      same-length = b .same-length;
+      rest =
+          sym (drop-drop (n - m) m l ∙ ap (λ (k : ℕ). drop k l) q)
+          ∙ (ap (drop (n - m)) (b .rest) ∙ (drop-drop (n - m) m l₀ ∙ ap (λ (k : ℕ). drop k l₀) q));
+    }

@@ -1,12 +1,13 @@
 -- What a flood by rows leaves. Assumes nothing.
 use mathlib.Core.Path.{_≡_}
-use mathlib.Core.Bool.{_&&_}
+use mathlib.Core.Bool.{Bool, not, _&&_}
 use mathlib.Core.List.{List, [], _++_}
+use mathlib.Core.Logic.{_⊎_}
 use Prim.Native.Nat.{ℕ, suc, _+_, _-_, _*_, _/_, _%_, _^_, _≤_, _<_}
 use lib.Dec.{T, ltb}
 use lib.IntN.{ℤ}
 use lib.ListN.{length, getD}
-use Rattle.lists.specs.Lists.{range, consIf, each, Beyond}
+use Rattle.lists.specs.Lists.{range, consIf, keep, each, isIn, Beyond}
 use Rattle.lists.specs.Reach.{Reach, reached}
 use Rattle.paper.specs.declared.Sizes.{Sizes}
 use Rattle.paper.specs.Lattice.{Lattice, lattice, cubes, cubeAt, visitable, visited}
@@ -35,9 +36,20 @@ stepsFrom P r x =
 unfoldable pub steps : Plan → ℕ → List ℕ
 steps P k = stepsFrom P (k / 64) (k % 64)
 
--- place x of word r of vis is set exactly where cube x of row r is reached
-pub record Exactly (P : Plan) (start : ℕ) (vis : List ℕ) (r x : ℕ) : Type 0 where
-  pub within : On (getD vis r 0) x → Reach (steps P) start (cell r x)
+-- the cube of a number is marked in these words
+abbrev pub marks : List ℕ → ℕ → Bool
+marks vis k = bit (getD vis (k / 64) 0) (k % 64)
+
+-- the words of a plan's rows are there, and with a marked cube each that a step from it leads to is marked
+pub record Closed (P : Plan) (vis : List ℕ) : Type 0 where
+  pub fit : P .size ≤ length vis
+  pub words : (r : ℕ) → r < P .size → getD vis r 0 < 2 ^ 64
+  pub over : (j k : ℕ) → j < 64 * P .size → T (marks vis j) → T (isIn (steps P j) k) → T (marks vis k)
+
+-- place x of word r of vis is set exactly where it was before, or cube x of row r is reached
+pub record Exactly (P : Plan) (start : ℕ) (old vis : List ℕ) (r x : ℕ) : Type 0 where
+  pub within : On (getD vis r 0) x → On (getD old r 0) x ⊎ Reach (steps P) start (cell r x)
+  pub older : On (getD old r 0) x → On (getD vis r 0) x
   pub whole : Reach (steps P) start (cell r x) → On (getD vis r 0) x
 
 -- what a flood by rows is lent: the words of visited cubes, and the list of waiting rows
@@ -48,11 +60,11 @@ pub record Room : Type 0 where
 abbrev pub room : List ℕ → List ℕ → Room
 room v w = record { vis = v; waiting = w }
 
--- a flood along a plan, which returns count
+-- a flood along a plan over words as they stand, which returns how many of the reached cubes were not marked
 pub record Flooded (P : Plan) (start : ℕ) (before after : Room) (count : ℕ) : Type 0 where
-  pub marked : (r x : ℕ) → r < P .size → x < 64 → Exactly P start (after .vis) r x
-  pub fits : (r : ℕ) → r < P .size → getD (after .vis) r 0 < 2 ^ 64
-  pub number : count ≡ length (reached (steps P) (64 * P .size) start)
+  pub marked : (r x : ℕ) → r < P .size → x < 64 → Exactly P start (before .vis) (after .vis) r x
+  pub closed : Closed P (after .vis)
+  pub number : count ≡ length (keep (λ k. not (marks (before .vis) k)) (reached (steps P) (64 * P .size) start))
   pub on-vis : Beyond (P .size) (before .vis) (after .vis)
   pub on-waiting : Beyond (P .room) (before .waiting) (after .waiting)
 

@@ -13,7 +13,7 @@ ghost use Rattle.bits.specs.Words.{less};
 ghost use Rattle.spread.specs.Along.{Filled};
 ghost use Rattle.spread.specs.Flow.{flow, wait, sends, Roomy};
 ghost use Rattle.spread.specs.Ways.{wayBy, wayAt, doorBy, besideBy, words, rowsOf, isRow, RowIn, planOf};
-ghost use Rattle.spread.specs.Flooded.{room, Empty, cell, Flooded, Spreads, Finds};
+ghost use Rattle.spread.specs.Flooded.{room, Empty, Closed, cell, Flooded, Spreads, Finds};
 
 // A way out of a row of cubes.
 pub struct Out {
@@ -144,8 +144,9 @@ fn pass_doors(
     h
 }
 
-// The cubes that are reached from cube x of a row are visited; how many they are is returned.
-fn flood(
+// The cubes that are reached from cube x of a row are visited, over words as they stand, which have with a cube all that is reached from
+// it. How many were not visited before is returned.
+pub fn flood(
     rows: &[u64],
     may: &[u64],
     z: Sizes,
@@ -156,7 +157,7 @@ fn flood(
     waiting: &mut [u32],
 ) -> usize
     requires { ⌜ Sized z × RowIn z row × (x < 64) × (words z ≤ length (now rows)) × (words z ≤ length (now may)) ⌝ }
-    requires { ⌜ Empty (words z) (now vis) × Empty (words z) (now due) × (rowsOf z ≤ length (now waiting)) ⌝ }
+    requires { ⌜ Closed (planOf z (now rows) (now may)) (now vis) × Empty (words z) (now due) × (rowsOf z ≤ length (now waiting)) ⌝ }
     ensures { λ r.
         let before = room (now (vis .entry)) (now (waiting .entry)) in
         let after = room (now (vis .exit)) (now (waiting .exit)) in

@@ -29,7 +29,7 @@ pub struct Work<'a> {
 }
 
 impl Work<'_> {
-    fn long_enough(&self, lattice: &Lattice) -> bool {
+    pub(crate) fn long_enough(&self, lattice: &Lattice) -> bool {
         let cubes = lattice.cube_count();
         let samples: usize = lattice.sizes().iter().product();
         self.words.len() >= cubes && self.waiting.len() >= cubes && self.slots.len() >= 7 * samples

@@ -158,7 +158,7 @@ fn narrow(value: i64) -> i32 {
 }
 
 /// The start cube and every visitable cube reached from it across mixed faces.
-fn reached(lattice: &Lattice, start: Point) -> BTreeSet<Point> {
+pub(crate) fn reached(lattice: &Lattice, start: Point) -> BTreeSet<Point> {
     let mut seen = BTreeSet::from([start]);
     let mut border = vec![start];
     while let Some(cube) = border.pop() {

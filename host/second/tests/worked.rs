@@ -1,8 +1,9 @@
-//! Document 01's sheets worked by hand, and those of document 02 (iii) and (iv), on the second mesher. Those of document 01 that give
-//! no start, and of (iii) that start at the lowest cube, name the lowest.
+//! Document 01's sheets worked by hand, and those of document 02 (iii) and (iv), and the pieces of (v), on the second mesher. Those of
+//! document 01 that give no start, and of (iii) that start at the lowest cube, name the lowest.
 
 use second::{
-    build, check, crossing, listing, parse, read, serialize, write, Built, Content, Start, Verdict, Volume, Work, FILL,
+    build, check, crossing, listing, parse, pieces, read, serialize, write, Built, Content, Found, Start, Verdict,
+    Volume, Work, FILL,
 };
 
 const ROOM: usize = 64 * 64 * 64;
@@ -259,4 +260,58 @@ fn values_of_t() {
     for (p, q, t) in worked {
         assert_eq!(crossing(p, q), t);
     }
+}
+
+/// The numbers of the lowest cubes in a list with room for them and one more.
+fn lowest_cubes(sizes: [usize; 3], samples: &[i16]) -> Vec<u32> {
+    let mut room = Room::new();
+    let Found { number, pieces: count } = pieces(sizes, samples, &mut [], &mut room.lend());
+    assert_eq!(number, 20);
+    let mut list = vec![77; count + 1];
+    assert_eq!(pieces(sizes, samples, &mut list[..count - 1], &mut room.lend()), Found { number: 20, pieces: count });
+    assert_eq!(list, vec![77; count + 1]);
+    assert_eq!(pieces(sizes, samples, &mut list, &mut room.lend()), Found { number: 0, pieces: count });
+    assert_eq!(list.pop(), Some(77));
+    list
+}
+
+/// Document 02 (v).
+#[test]
+fn pieces_by_hand() {
+    let of = |sizes: [usize; 3], air: &[[usize; 3]]| lowest_cubes(sizes, &with_air(sizes, air));
+    assert_eq!(of([5, 2, 2], &[[0, 0, 0], [4, 0, 0]]), [0, 3]);
+    assert_eq!(of([5; 3], &[[1; 3], [3; 3]]), [0, 42]);
+    assert_eq!(of([5; 3], &[[1; 3], [2; 3], [3; 3]]), [0]);
+    assert_eq!(of([6, 4, 4], &[[0; 3], [4, 2, 2]]), [0, 23]);
+    let parted = with_fill([3, 3, 2], &[[1, 1, 0]], &[[0, 0, 0], [2, 2, 0]]);
+    assert_eq!(lowest_cubes([3, 3, 2], &parted), [1, 2]);
+}
+
+/// What each refusal leaves: the list always, the work room but for 20, as they were.
+#[test]
+fn pieces_refused() {
+    let (sizes, samples) = ([3, 3, 2], with_air([3, 3, 2], &[[1, 1, 0]]));
+    let call = |sizes: [usize; 3], samples: &[i16], list: usize, [words, waiting, slots]: [usize; 3]| {
+        let (mut list, mut room) = (vec![1; list], Room::new());
+        let mut work = room.lend();
+        work = Work {
+            words: &mut work.words[..words],
+            waiting: &mut work.waiting[..waiting],
+            slots: &mut work.slots[..slots],
+        };
+        let Found { number, pieces } = pieces(sizes, samples, &mut list, &mut work);
+        assert!(list.iter().all(|entry| *entry == 1) || number == 0);
+        let cleared = work.words.first() == Some(&0);
+        assert_eq!(cleared, [0, 20].contains(&number));
+        (number, pieces)
+    };
+    assert_eq!(call(sizes, &samples, 1, [4, 4, 126]), (0, 1));
+    assert_eq!(call(sizes, &samples, 0, [4, 4, 126]), (20, 1));
+    assert_eq!(call(sizes, &[-1; 18], 0, [4, 4, 126]), (5, 0));
+    assert_eq!(call(sizes, &[0; 18], 1, [4, 4, 126]), (5, 0));
+    assert_eq!(call(sizes, &samples, 0, [3, 4, 126]), (3, 0));
+    assert_eq!(call(sizes, &samples, 1, [4, 3, 126]), (3, 0));
+    assert_eq!(call(sizes, &samples, 1, [4, 4, 125]), (3, 0));
+    assert_eq!(call(sizes, &samples[1..], 0, [3, 3, 125]), (2, 0));
+    assert_eq!(call([3, 65, 2], &samples, 0, [0, 0, 0]), (1, 0));
 }

@@ -1,6 +1,6 @@
 //! The library linked into this program. All of the host's unsafe code stands here.
 
-use super::{Built, Got, Lattice, Level, Loaded, Place, Sizes, Verdict, Work, Wrote};
+use super::{Built, Found, Got, Lattice, Level, Loaded, Place, Sizes, Verdict, Work, Wrote};
 
 extern "C" {
     #[rustfmt::skip]
@@ -82,6 +82,20 @@ extern "C" {
         samples: *mut i16,
         samples_len: usize,
     ) -> Verdict;
+    #[rustfmt::skip]
+    fn malxuqeed_pieces(
+        sizes: Sizes,
+        samples: *const i16,
+        samples_len: usize,
+        list: *mut u32,
+        list_len: usize,
+        words: *mut u16,
+        words_len: usize,
+        waiting: *mut u32,
+        waiting_len: usize,
+        slots: *mut u32,
+        slots_len: usize,
+    ) -> Found;
 }
 
 // SAFETY of all calls: the functions have no conditions of their own; each pointer is that of a slice, passed
@@ -156,6 +170,17 @@ pub fn convert(level: Level, scale: u32, voxels: &[f32], samples: &mut [i16]) ->
     unsafe {
         malxuqeed_convert(
             halfway, grey, material, scale, voxels.as_ptr(), voxels.len(), samples.as_mut_ptr(), samples.len(),
+        )
+    }
+}
+
+#[rustfmt::skip]
+pub fn pieces(sizes: Sizes, samples: &[i16], list: &mut [u32], work: Work) -> Found {
+    let Work { words, waiting, slots } = work;
+    unsafe {
+        malxuqeed_pieces(
+            sizes, samples.as_ptr(), samples.len(), list.as_mut_ptr(), list.len(),
+            words.as_mut_ptr(), words.len(), waiting.as_mut_ptr(), waiting.len(), slots.as_mut_ptr(), slots.len(),
         )
     }
 }

@@ -4,7 +4,7 @@
 //! The process (`bridge/serve.c`) puts guard bytes round every slice and says whether they and the slices that are
 //! only read are unchanged. Each thread has a process; it ends with the thread.
 
-use super::{Built, Got, Lattice, Level, Loaded, Sizes, Verdict, Work, Wrote};
+use super::{Built, Found, Got, Lattice, Level, Loaded, Sizes, Verdict, Work, Wrote};
 use std::cell::RefCell;
 use std::io::{self, Read, Write};
 use std::process::{exit, Child, ChildStdin, ChildStdout, Command, Stdio};
@@ -203,4 +203,13 @@ pub fn convert(level: Level, scale: u32, mut voxels: &[f32], mut samples: &mut [
     let asked = [6, halfway.into(), grey, material, scale as usize, 0, 0, 0];
     let [number, place, ..] = call(asked, &mut [&mut voxels, &mut samples]);
     Verdict { number, place }
+}
+
+pub fn pieces(sizes: Sizes, mut samples: &[i16], mut list: &mut [u32], mut work: Work) -> Found {
+    let Sizes { nx, ny, nz } = sizes;
+    let [number, pieces, ..] = call(
+        [7, nx, ny, nz, 0, 0, 0, 0],
+        &mut [&mut samples, &mut list, &mut work.words, &mut work.waiting, &mut work.slots],
+    );
+    Found { number, pieces }
 }

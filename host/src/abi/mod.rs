@@ -78,6 +78,14 @@ pub struct Loaded {
     pub facets: usize,
 }
 
+/// Of a search for pieces (document 02 (v)).
+#[repr(C)]
+#[derive(Clone, Copy, Debug, Default, PartialEq, Eq)]
+pub struct Found {
+    pub number: usize,
+    pub pieces: usize,
+}
+
 /// Where a sheet starts (document 02 (iv)).
 #[derive(Clone, Copy, Debug, Default, PartialEq, Eq)]
 pub enum Start {
@@ -159,4 +167,8 @@ pub fn stl_read(bytes: &[u8], corners: &mut [i32]) -> Loaded {
 
 pub fn convert(level: Level, scale: u32, voxels: &[f32], samples: &mut [i16]) -> Verdict {
     library::convert(level, scale, voxels, samples)
+}
+
+pub fn pieces(sizes: Sizes, samples: &[i16], list: &mut [u32], work: Work) -> Found {
+    library::pieces(sizes, samples, list, work)
 }

@@ -1,10 +1,10 @@
-use crate::abi::Start;
 use crate::args::Given;
 use crate::command::{Command, FORCE, START};
 use crate::cubes::Cubes;
 use crate::explain::{place_text, About};
 use crate::failure::Failure;
 use crate::files;
+use crate::pieces;
 use crate::refuse::refuse;
 use crate::room::Room;
 use crate::sheet::Sheet;
@@ -26,7 +26,7 @@ tray's floor. Where only cubes at the bounds are crossed the answer is 'refused 
 which --start lowest takes.
 
 Where the volume has further surfaces, a line on standard error says how many crossed cubes are not on this sheet, and \
-names the start of the next one.
+names the start of the next one. 'malxuqeed pieces' lists them all, and 'malxuqeed build-all' builds them.
 
 SHEET is written beside its name and then renamed: a crash, a signal or a full disk leaves the old file or none. With - \
 as SHEET the file goes to standard output, and the counts to standard error.",
@@ -39,7 +39,8 @@ fn run(given: &Given, streams: &mut Streams) -> Result<Ended, Failure> {
     files::apart(&[from], &[to])?;
     let volume = Volume::read(from, streams)?;
     let about = About { volume: Some((from, &volume)), start: start.named(), ..About::default() };
-    let (built, sheet) = Sheet::build(&volume, start.given(), &mut Room::default());
+    let mut room = Room::default();
+    let (built, sheet) = Sheet::build(&volume, start.given(), &mut room);
     if built.number != 0 {
         return refuse(built.number, &about, streams);
     }
@@ -50,23 +51,23 @@ fn run(given: &Given, streams: &mut Streams) -> Result<Ended, Failure> {
     files::put(to, &bytes, given.has(&FORCE), streams)?;
     let counts = format!("{} {} {}", built.vertices, built.triangles, built.cubes);
     files::answer(to, &counts, streams)?;
-    if let Some(rest) = rest(&volume, start.given()) {
+    if let Some(rest) = rest(&volume, built.cubes, &sheet, &mut room) {
         streams.say(&rest);
     }
     Ok(Ended::Well)
 }
 
-/// What the volume holds besides the sheet from a start, in a sentence.
-fn rest(volume: &Volume, start: Start) -> Option<String> {
-    let cubes = Cubes::of(volume)?;
-    let (pieces, of) = cubes.pieces();
-    let own = of[cubes.number(cubes.start(start)?)]? as usize;
-    let others = pieces.len() - 1;
+/// What the volume holds besides a sheet that passes through so many of its cubes, in a sentence.
+fn rest(volume: &Volume, visited: usize, sheet: &Sheet, room: &mut Room) -> Option<String> {
+    let starts = pieces::find(volume, room).ok()?;
+    let others = starts.len() - 1;
     if others == 0 {
         return None;
     }
-    let left = pieces.iter().map(|piece| piece.cubes).sum::<usize>() - pieces[own].cubes;
-    let next = place_text(pieces[(own + 1) % pieces.len()].start);
+    let cubes = Cubes::of(volume)?;
+    let (left, lowest) = (cubes.crossed() - visited, cubes.lowest_of(sheet)?);
+    let own = starts.iter().position(|start| *start == lowest)?;
+    let next = place_text(starts[(own + 1) % starts.len()]);
     let surfaces = if others == 1 { "1 other surface".to_string() } else { format!("{others} other surfaces") };
     Some(format!(
         "{left} crossed cubes are not on this sheet but on {surfaces}; the next one is built with --start {next}"

@@ -38,7 +38,7 @@ fn run(given: &Given, streams: &mut Streams) -> Result<Ended, Failure> {
         header_hints(&bytes).iter().for_each(|hint| streams.say(hint));
         return ended;
     };
-    let (pieces, _) = cubes.pieces();
+    let pieces = cubes.pieces();
     let facts = Facts::of(&volume);
     let Sizes { nx, ny, nz } = volume.sizes;
     streams.print(format_args!("sizes {nx} {ny} {nz}"))?;

@@ -60,6 +60,9 @@ pub fn page() -> String {
         if let Some(words) = row.floats {
             page += &format!("Of a volume in floats: {}. {}\n", plain(words.means), plain(words.remedy));
         }
+        if let Some(words) = row.pieces {
+            page += &format!("Of a search for pieces: {}. {}\n", plain(words.means), plain(words.remedy));
+        }
     }
     page
 }

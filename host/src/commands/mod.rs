@@ -2,6 +2,7 @@
 
 pub mod audit;
 pub mod build;
+pub mod build_all;
 pub mod check;
 pub mod completion;
 pub mod convert;
@@ -12,6 +13,7 @@ pub mod info;
 pub mod list;
 pub mod manual;
 pub mod picture;
+pub mod pieces;
 pub mod show;
 pub mod stl;
 pub mod version;
@@ -19,11 +21,13 @@ pub mod version;
 use crate::command::Command;
 
 /// In the order of the help.
-pub static COMMANDS: [&Command; 15] = [
+pub static COMMANDS: [&Command; 17] = [
     &from_raw::COMMAND,
     &convert::COMMAND,
     &info::COMMAND,
+    &pieces::COMMAND,
     &build::COMMAND,
+    &build_all::COMMAND,
     &check::COMMAND,
     &audit::COMMAND,
     &picture::COMMAND,

@@ -281,6 +281,19 @@ impl Lent {
         second::Content { sizes: case.sizes, records: records.collect(), triangles: triangles.collect() }
     }
 
+    /// The list of pieces is the slice of triangles.
+    pub fn library_pieces(&mut self, case: &Case) -> host::abi::Found {
+        let Lent { triangles, words, waiting, slots, .. } = self;
+        let work = Work { words: words.lend(), waiting: waiting.lend(), slots: slots.lend() };
+        host::abi::pieces(sizes(case.sizes), &case.samples, triangles.lend(), work)
+    }
+
+    pub fn second_pieces(&mut self, case: &Case) -> second::Found {
+        let Lent { triangles, words, waiting, slots, .. } = self;
+        let mut work = second::Work { words: words.lend(), waiting: waiting.lend(), slots: slots.lend() };
+        second::pieces(case.sizes, &case.samples, triangles.lend(), &mut work)
+    }
+
     pub fn library_check(&mut self, case: &Case, file: &[u8]) -> host::abi::Verdict {
         let Lent { words, waiting, slots, .. } = self;
         let work = Work { words: words.lend(), waiting: waiting.lend(), slots: slots.lend() };

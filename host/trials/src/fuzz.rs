@@ -1,7 +1,7 @@
 //! The fuzz driver: random and mutated volumes, sheets and command lines, one round after another.
 
 use crate::random::Random;
-use crate::{floats, hold, stl, tooled};
+use crate::{floats, hold, pieces, stl, tooled};
 use std::collections::BTreeMap;
 use std::fs::File;
 use std::os::unix::fs::FileExt;
@@ -33,7 +33,7 @@ pub type Counts = BTreeMap<(&'static str, usize), u64>;
 
 type Trial = (&'static str, fn(&mut Random) -> usize);
 
-const TRIALS: [Trial; 16] = [
+const TRIALS: [Trial; 18] = [
     ("build", hold::build),
     ("build, fill", hold::build_filled),
     ("check", hold::check),
@@ -48,6 +48,8 @@ const TRIALS: [Trial; 16] = [
     ("stl write", stl::write),
     ("stl read", stl::read),
     ("convert", floats::convert),
+    ("pieces", pieces::find),
+    ("tool", tooled::round),
     ("tool", tooled::round),
     ("tool", tooled::round),
 ];

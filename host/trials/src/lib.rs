@@ -8,6 +8,7 @@ pub mod floats;
 pub mod fuzz;
 pub mod hold;
 pub mod pairing;
+pub mod pieces;
 pub mod random;
 pub mod stack;
 pub mod stl;

@@ -29,8 +29,8 @@ type Told = Option<[usize; 3]>;
 struct Expected {
     status: u8,
     output: Output,
-    /// The file that is written, and its bytes.
-    written: Option<(OsString, Vec<u8>)>,
+    /// The files that are written, and their bytes.
+    written: Vec<(OsString, Vec<u8>)>,
 }
 
 enum Output {
@@ -42,7 +42,7 @@ enum Output {
 }
 
 fn expected(status: u8, output: impl Into<String>) -> Expected {
-    Expected { status, output: Output::Exact(output.into()), written: None }
+    Expected { status, output: Output::Exact(output.into()), written: Vec::new() }
 }
 
 /// What a line of a manifest asks for: volume, sheet, and the start, or nothing where it is left to the sheet.
@@ -58,6 +58,7 @@ struct Manifest {
 const VOLUMES: [&str; 3] = ["v.raw", "w.raw", "x y.raw"];
 const SHEETS: [&str; 3] = ["s.sheet", "t.sheet", "old.sheet"];
 const STLS: [&str; 3] = ["s.stl", "t.stl", "old.sheet"];
+const FOLDERS: [&str; 5] = ["folder", "some", "some", "new", "old.sheet"];
 const OTHERS: [&str; 6] = ["missing", "folder", "folder/new", "missing/new", "v.raw/new", "new.sheet"];
 
 fn volume_name(random: &mut Random) -> &'static str {
@@ -114,6 +115,23 @@ fn exported(sheet: &second::Content) -> Result<Vec<u8>, second::stl::Refused> {
     second::stl::write(sheet.records.len(), sheet.triangles.len(), &vertices, &triangles, usize::MAX)
 }
 
+/// A folder of sheets that are there already: right ones, others, and what has nothing to do with them.
+fn prepare_some(random: &mut Random, about: &Case) -> std::io::Result<()> {
+    fs::create_dir("some")?;
+    fs::write("some/note.txt", b"a note")?;
+    for (name, _, bytes) in sheets(about) {
+        match random.below(12) {
+            0..=3 => fs::write(Path::new("some").join(name), bytes)?,
+            4 => fs::write(Path::new("some").join(name), b"something else")?,
+            _ => {}
+        }
+    }
+    if random.once_in(8) {
+        fs::write("some/250046.sheet", b"of another volume")?;
+    }
+    Ok(())
+}
+
 /// Fills the folder anew.
 fn prepare(random: &mut Random, about: &Case) -> std::io::Result<Manifest> {
     for entry in fs::read_dir(".")? {
@@ -125,6 +143,7 @@ fn prepare(random: &mut Random, about: &Case) -> std::io::Result<Manifest> {
         }
     }
     fs::create_dir("folder")?;
+    prepare_some(random, about)?;
     let sheet = content(about).unwrap_or_else(|| damage::free_content(random));
     fs::write("v.raw", about.file())?;
     fs::write("w.raw", damage::volume_file(random, about.file()))?;
@@ -187,7 +206,7 @@ fn converted(random: &mut Random, asked: &Floats) -> Vec<OsString> {
 
 /// A command line that means something, or a random row of words.
 fn words(random: &mut Random, start: Start, floats: &Floats) -> Vec<OsString> {
-    let mut words: Vec<OsString> = match random.below(14) {
+    let mut words: Vec<OsString> = match random.below(18) {
         0 => vec!["build".into(), volume_name(random).into(), sheet_name(random).into()],
         1 | 2 => vec!["check".into(), volume_name(random).into(), sheet_name(random).into()],
         3 => vec!["list".into(), volume_name(random).into()],
@@ -198,6 +217,8 @@ fn words(random: &mut Random, start: Start, floats: &Floats) -> Vec<OsString> {
         8 | 9 => vec!["stl".into(), sheet_name(random).into(), stl_name(random).into()],
         10 => vec!["facets".into(), stl_name(random).into()],
         11 | 12 => converted(random, floats),
+        13 => vec!["pieces".into(), volume_name(random).into()],
+        14..=16 => return all_built(random),
         _ => return (0..random.below(6)).map(|_| any_word(random, start)).collect(),
     };
     if random.once_in(20) && words.len() > 1 {
@@ -217,6 +238,20 @@ fn words(random: &mut Random, start: Start, floats: &Floats) -> Vec<OsString> {
     words
 }
 
+/// Every sheet to a folder.
+fn all_built(random: &mut Random) -> Vec<OsString> {
+    let volume = if random.once_in(2) { "v.raw" } else { volume_name(random) };
+    let folder = if random.once_in(8) { random.pick(&OTHERS) } else { random.pick(&FOLDERS) };
+    let mut words: Vec<OsString> = ["build-all", volume, folder].map(OsString::from).into();
+    if random.once_in(3) {
+        words.push("--force".into());
+    }
+    if random.once_in(20) {
+        words[1 + random.below(2)] = "-".into();
+    }
+    words
+}
+
 /// A picture to standard output.
 fn picture(random: &mut Random, start: Start) -> Vec<OsString> {
     let mut words: Vec<OsString> = ["picture", sheet_name(random), "-", "--size", "64"].map(OsString::from).into();
@@ -232,7 +267,21 @@ fn picture(random: &mut Random, start: Start) -> Vec<OsString> {
 fn any_word(random: &mut Random, start: Start) -> OsString {
     match random.below(8) {
         0 | 1 => random
-            .pick(&["build", "check", "list", "show", "audit", "stl", "facets", "convert", "--level", "help", ""])
+            .pick(&[
+                "build",
+                "check",
+                "list",
+                "show",
+                "audit",
+                "stl",
+                "facets",
+                "convert",
+                "pieces",
+                "build-all",
+                "--level",
+                "help",
+                "",
+            ])
             .into(),
         2 => {
             random.pick(&["--help", "-h", "--", "--start", "--start=", "--start=0,0,0", "--x", "-v", "--force"]).into()
@@ -350,12 +399,12 @@ fn clash(read: &Path, written: &Path) -> bool {
 /// A file that is written, and the answer.
 fn expect_written(path: &Path, bytes: Vec<u8>, answer: String) -> Expected {
     if path == Path::new("-") {
-        return Expected { status: 0, output: Output::Any, written: None };
+        return Expected { status: 0, output: Output::Any, written: Vec::new() };
     }
     if !writable(path) {
         return expected(2, "");
     }
-    let written = Some((Path::new(".").join(path).into_os_string(), bytes));
+    let written = vec![(Path::new(".").join(path).into_os_string(), bytes)];
     Expected { status: 0, output: Output::Exact(answer), written }
 }
 
@@ -374,6 +423,80 @@ fn expect_build(volume: &Path, sheet: &Path, start: Start, input: &[u8]) -> Expe
     }
     let bytes = content(&case).map(|content| second::serialize(&content)).unwrap_or_default();
     expect_written(sheet, bytes, format!("{} {} {}\n", counts.vertices, counts.triangles, counts.cubes))
+}
+
+/// The number of each piece's lowest cube, and that cube; or the refusal.
+fn lowest_cubes(file: &[u8]) -> Result<(Case, Vec<(usize, [usize; 3])>), usize> {
+    let case = parsed(file, Start::Lowest)?;
+    let lattice = second::Lattice::new(case.sizes, &case.samples)?;
+    let cubes = second::scan(&lattice).into_iter().map(|cube| [cube.x, cube.y, cube.z].map(|v| v as usize));
+    let [nx, ny, _] = case.sizes.map(|axis| axis - 1);
+    let lowest: Vec<_> = cubes.map(|[x, y, z]| (x + nx * (y + ny * z), [x, y, z])).collect();
+    if lowest.is_empty() {
+        return Err(5);
+    }
+    Ok((case, lowest))
+}
+
+fn expect_pieces(volume: &Path, input: &[u8]) -> Expected {
+    let Ok(file) = bytes_of(volume, input) else { return expected(2, "") };
+    match lowest_cubes(&file) {
+        Ok((_, lowest)) => {
+            let line = |(number, [x, y, z]): &(usize, [usize; 3])| format!("{number} {x} {y} {z}\n");
+            expected(0, format!("{}\n{}", lowest.len(), lowest.iter().map(line).collect::<String>()))
+        }
+        Err(number) => expected(1, format!("refused {number}\n")),
+    }
+}
+
+/// The name of each piece's sheet, its line and its bytes.
+fn sheets(about: &Case) -> Vec<(String, String, Vec<u8>)> {
+    let Ok((mut case, lowest)) = lowest_cubes(&about.file()) else { return Vec::new() };
+    let mut sheets = Vec::new();
+    for (number, [x, y, z]) in lowest {
+        case.start = Start::Cube([x, y, z]);
+        let (counts, name) = (sheet_counts(&case), format!("{number:06}.sheet"));
+        let bytes = content(&case).map(|content| second::serialize(&content)).unwrap_or_default();
+        let line = format!("accepted {name} {x},{y},{z} {} {} {}\n", counts.vertices, counts.triangles, counts.cubes);
+        sheets.push((name, line, bytes));
+    }
+    sheets
+}
+
+/// Whether a folder is there, or could be made there. Nothing is left behind.
+fn has_folder(path: &Path) -> bool {
+    path.is_dir() || fs::create_dir(path).is_ok() && fs::remove_dir(path).is_ok()
+}
+
+/// Whether something in a folder is in the way of sheets: what stands under the name of one and is another, and a sheet of six digits
+/// that is none of them.
+fn in_the_way(folder: &Path, sheets: &[(String, String, Vec<u8>)]) -> bool {
+    let entries = fs::read_dir(folder).into_iter().flatten().flatten();
+    entries.map(|entry| entry.file_name().to_string_lossy().into_owned()).any(|there| {
+        let own = sheets.iter().find(|(name, ..)| *name == there);
+        let like = there.len() == 12 && there.ends_with(".sheet") && there[..6].parse::<usize>().is_ok();
+        own.map_or(like, |(.., bytes)| fs::read(folder.join(&there)).ok().as_ref() != Some(bytes))
+    })
+}
+
+fn expect_build_all(volume: &Path, folder: &Path, force: bool, input: &[u8]) -> Expected {
+    if folder == Path::new("-") {
+        return expected(2, "");
+    }
+    let Ok(file) = bytes_of(volume, input) else { return expected(2, "") };
+    let case = match lowest_cubes(&file) {
+        Ok((case, _)) => case,
+        Err(number) => return expected(1, format!("refused {number}\n")),
+    };
+    let sheets = sheets(&case);
+    if !has_folder(folder) || !force && in_the_way(folder, &sheets) {
+        return expected(2, "");
+    }
+    let lines: String = sheets.iter().map(|(_, line, _)| line.as_str()).collect();
+    let output = Output::Exact(format!("{}\n{lines}", sheets.len()));
+    let path = |name: String| Path::new(".").join(folder).join(name).into_os_string();
+    let written = sheets.into_iter().map(|(name, _, bytes)| (path(name), bytes)).collect();
+    Expected { status: 0, output, written }
 }
 
 fn expect_stl(sheet: &Path, to: &Path, input: &[u8]) -> Expected {
@@ -490,7 +613,7 @@ fn expect_audit(manifest: &Manifest) -> Expected {
     let accepted = all - refused - unread;
     lines.push(vec![format!("sheets {all}, accepted {accepted}, refused {refused}, unread {unread}")]);
     let status = if unread > 0 { 2 } else { u8::from(refused > 0) };
-    Expected { status, output: Output::Lines(lines), written: None }
+    Expected { status, output: Output::Lines(lines), written: Vec::new() }
 }
 
 fn expect_check(volume: &Path, sheet: &Path, start: Result<Start, ()>, input: &[u8]) -> Expected {
@@ -511,7 +634,7 @@ fn expect_check(volume: &Path, sheet: &Path, start: Result<Start, ()>, input: &[
                 let start = start.map_or(String::new(), |[x, y, z]| format!("start {x},{y},{z}\n"));
                 format!("{}\n{start}", first(number, place))
             };
-            Expected { status, output: Output::OneOf(may.into_iter().map(text).collect()), written: None }
+            Expected { status, output: Output::OneOf(may.into_iter().map(text).collect()), written: Vec::new() }
         }
     }
 }
@@ -539,6 +662,11 @@ fn expect(parsed: &Result<(&'static Command, Given), Failure>, input: &[u8], man
             }
         }
         "show" => expect_show(given.name(0), input),
+        "pieces" => expect_pieces(given.name(0), input),
+        "build-all" => {
+            let force = command.option(b"--force").is_some_and(|option| given.has(option));
+            expect_build_all(given.name(0), given.name(1), force, input)
+        }
         "stl" => expect_stl(given.name(0), given.name(1), input),
         "facets" => expect_facets(given.name(0), input),
         "convert" => expect_convert(command, given, input),
@@ -546,7 +674,7 @@ fn expect(parsed: &Result<(&'static Command, Given), Failure>, input: &[u8], man
         "audit" if bytes_of(given.name(0), input).is_err() => expected(2, ""),
         "help" if given.maybe(0).is_none() => expected(0, help::tool()),
         // what other commands print is held by tests of their own; here they must end, and leave the folder as it is
-        _ => Expected { status: 2, output: Output::Any, written: None },
+        _ => Expected { status: 2, output: Output::Any, written: Vec::new() },
     }
 }
 
@@ -587,7 +715,8 @@ pub fn round(random: &mut Random) -> usize {
     let settled = !matches!(wanted.output, Output::Any);
     assert!(if settled { status == wanted.status } else { status <= 2 }, "{args:?} ended with {status}: {said}");
     // Most commands say something exactly when it is not well; an audit or a build may have something to say on the way.
-    let talks = matches!(&command, Ok((command, _)) if ["audit", "build", "convert", "info", "picture", "stl"].contains(&command.name));
+    let talkers = ["audit", "build", "build-all", "convert", "info", "picture", "stl"];
+    let talks = matches!(&command, Ok((command, _)) if talkers.contains(&command.name));
     assert!(talks || errors.is_empty() == (status == 0), "{args:?} ended with {status} and said {errors:?}");
     files.extend(wanted.written);
     assert!(files == snapshot_all(), "{args:?}: the folder is not as it should be");

@@ -8,7 +8,7 @@ use std::collections::{BTreeMap, BTreeSet};
 use trials::cases::{self, Case, Lent};
 use trials::fill::{self, FILL};
 use trials::random::Random;
-use trials::{damage, floats, hold, pairing, stl, volumes};
+use trials::{damage, floats, hold, pairing, pieces, stl, volumes};
 
 /// Runs so many cases and says that each of the numbers came up.
 fn hold(cases: u64, seed: u64, trial: fn(&mut Random) -> usize, numbers: &[usize]) {
@@ -237,6 +237,90 @@ fn stl_read_8000() {
     hold(8000, 7_000_000, stl::read, &[0, 7, 14, 25]);
 }
 
+#[test]
+fn pieces_10000() {
+    hold(10_000, 15_000_000, pieces::find, &[0, 1, 2, 3, 5, 20]);
+}
+
+/// The list of the lowest cubes, by the library and by the plain scan, with dirty memory.
+fn lowest_cubes(case: &Case) -> Vec<u32> {
+    let mut ours = Lent::dirty(&mut Random::new(17), case.sizes, [0, cases::cube_count(case.sizes)]);
+    let mut theirs = ours.clone();
+    let (answer, expected) = (ours.library_pieces(case), theirs.second_pieces(case));
+    assert_eq!((answer.number, answer.pieces), (expected.number, expected.pieces), "{case:?}");
+    assert!(ours == theirs, "memory differs: {:?}", case.sizes);
+    ours.triangles.lend()[..answer.pieces].to_vec()
+}
+
+/// Worked values of document 02 (v), by both.
+#[test]
+fn worked_pieces() {
+    let of = |sizes: [usize; 3], air: &[[usize; 3]], fill: &[[usize; 3]]| {
+        lowest_cubes(&worked(sizes, air, fill, Start::Lowest))
+    };
+    assert_eq!(of([5, 2, 2], &[[0, 0, 0], [4, 0, 0]], &[]), [0, 3]);
+    assert_eq!(of([5; 3], &[[1; 3], [3; 3]], &[]), [0, 42]);
+    assert_eq!(of([5; 3], &[[1; 3], [2; 3], [3; 3]], &[]), [0]);
+    assert_eq!(of([6, 4, 4], &[[0; 3], [4, 2, 2]], &[]), [0, 23]);
+    assert_eq!(of([3, 3, 2], &[[1, 1, 0]], &[[0, 0, 0], [2, 2, 0]]), [1, 2]);
+    assert_eq!(of([2; 3], &[], &[]), []);
+}
+
+/// One sample of air at each place of lattices whose axes are round the sizes of blocks.
+#[test]
+fn a_speck_at_each_place() {
+    for sizes in [[2, 3, 4], [5, 5, 5], [9, 8, 7], [17, 3, 2], [2, 33, 3], [3, 2, 64], [16, 9, 2]] {
+        for n in 0..sizes.iter().product::<usize>() {
+            let at = [n % sizes[0], n / sizes[0] % sizes[1], n / sizes[0] / sizes[1]];
+            let low = at.map(|v| v.saturating_sub(1));
+            let number = low[0] + (sizes[0] - 1) * (low[1] + (sizes[1] - 1) * low[2]);
+            assert_eq!(lowest_cubes(&worked(sizes, &[at], &[], Start::Lowest)), [number as u32]);
+        }
+    }
+}
+
+/// Lattices of 64 samples an axis: the benchmark's volumes, the same with fill, specks wherever blocks meet, and 32,768 pieces.
+#[test]
+fn pieces_of_full_lattices() {
+    let full = |air: fn([usize; 3]) -> bool| {
+        let air = |n: usize| if air([n % 64, n / 64 % 64, n / 4096]) { 1 } else { -1 };
+        Case { sizes: [64; 3], start: Start::Lowest, samples: (0..64 * 64 * 64).map(air).collect() }
+    };
+    let borders = full(|at| at.iter().all(|v| [0, 2, 8, 15, 17, 31, 33, 48, 63].contains(v)));
+    assert_eq!(lowest_cubes(&borders).len(), 9 * 9 * 9);
+    assert_eq!(lowest_cubes(&full(|at| at.iter().all(|v| v % 2 == 0))).len(), 32 * 32 * 32);
+    assert_eq!(lowest_cubes(&full(|at| at == [32; 3])), [31 * (1 + 63 + 63 * 63)]);
+    assert_eq!(lowest_cubes(&full(|at| at == [63; 3])), [62 * (1 + 63 + 63 * 63)]);
+    assert_eq!(lowest_cubes(&chequered()), [0]);
+    for (name, case) in volumes::all().into_iter().chain(volumes::filled()).chain(volumes::small()) {
+        println!("{name}: {} pieces", lowest_cubes(&case).len());
+    }
+}
+
+/// Each crossed cube is in exactly one piece: the sheets from the listed cubes have between them every crossed cube once.
+#[test]
+fn sheets_of_all_pieces_2000() {
+    let mut most = 0;
+    for seed in 0..2000 {
+        let mut case = pieces::case(&mut Random::new(16_000_000 + seed));
+        let Ok(lattice) = second::Lattice::new(case.sizes, &case.samples) else { continue };
+        let crossed = lattice.cubes().filter(|cube| lattice.crossed(*cube)).count();
+        let list = lowest_cubes(&case);
+        most = most.max(list.len());
+        if list.len() > 40 {
+            continue;
+        }
+        let mut visited = 0;
+        for number in &list {
+            let cube = host::room::cube(cases::sizes(case.sizes), *number as usize);
+            case.start = Start::Cube([cube.x, cube.y, cube.z]);
+            visited += Lent::clean(case.sizes, [0, 0]).library_build(&case).cubes;
+        }
+        assert_eq!(visited, crossed, "{case:?}");
+    }
+    assert!(most > 100);
+}
+
 /// Every coordinate that a float is written for, in one file: nine to a facet, what is left over at 0.
 #[test]
 fn every_coordinate_to_stl_and_back() {
@@ -292,7 +376,7 @@ fn surfaces(seed: u64, case: fn(&mut Random) -> Case) {
             wanted.push(Piece { start, cubes: visited.len() });
         }
         most = most.max(wanted.len());
-        assert_eq!(cubes.pieces().0, wanted, "{case:?}");
+        assert_eq!(cubes.pieces(), wanted, "{case:?}");
     }
     assert!(most > 5);
 }

@@ -6,7 +6,7 @@ use Prim.Native.Nat.{ℕ, suc, _+_, _*_, _<_, _-_, _^_}
 use native.Mathlib.Omega.{arith}
 use lib.ListN.{getD, set, length-set}
 use denote.Ref.{now}
-use Rattle.lists.proofs.Stores.{beyond-refl, beyond-trans}
+use Rattle.lists.proofs.Stores.{beyond-trans}
 use Rattle.lists.specs.Lists.{Beyond}
 use Rattle.spread.specs.Flow.{flow, Roomy}
 use Rattle.spread.specs.Ways.{words, rowsOf, isRow, RowIn, planOf}
@@ -48,7 +48,8 @@ at l = getD (l .before .loop .waiting) (l .before .loop .h - 1) 0
 popped : (l : tie.In-loop Inv-loop μ-loop) → RowIn (start (l .before) .args .z) (at l)
 popped l =
     let s = start (l .before) in
-    at-row (s .args .z) (now (s .args .rows)) (now (s .args .may)) (s .args .row) (s .args .x) (s .pre .0 .0) (s .pre .0 .1) (s .pre .0 .2) _ _ _ _ _ _ _ _ _
+    at-row (s .args .z) (now (s .args .rows)) (now (s .args .may)) (s .args .row) (s .args .x) (s .pre .0 .0) (s .pre .0 .1) (s .pre .0 .2) _ (s .pre .1 .0)
+    _ _ _ _ _ _ _ _
     (some l) (l .before .loop .inv)
 
 popped-lt : (l : tie.In-loop Inv-loop μ-loop) → let z = start (l .before) .args .z in (at l < words z) × (at l < 4097)
@@ -69,7 +70,8 @@ roomy : (c : tie.After-filled Inv-loop μ-loop) → let l = inside c in
 roomy c =
     let l = inside c in
     let s = start (l .before) in
-    at-roomy (s .args .z) (now (s .args .rows)) (now (s .args .may)) (s .args .row) (s .args .x) (s .pre .0 .0) (s .pre .0 .1) (s .pre .0 .2) _ _ _ _ _ _ _ _ _
+    at-roomy (s .args .z) (now (s .args .rows)) (now (s .args .may)) (s .args .row) (s .args .x) (s .pre .0 .0) (s .pre .0 .1) (s .pre .0 .2) _ (s .pre .1 .0)
+    _ _ _ _ _ _ _ _
     (some l) (l .before .loop .inv) _ (c .before .before .before .before .before .quad-at .ensures) _ _ (c .before .gate-row .ensures) (full-lt c)
     (c .filled .ensures)
 
@@ -89,11 +91,11 @@ left c =
     (now (s .args .due)) (now (s .args .waiting)) _ _ (s .pre .1 .1) (s .pre .1 .2) (w .wait-row .ensures) in
     let e : l .h ≡ 0 = omega arith in (
       flooding-done (s .args .z) (now (s .args .rows)) (now (s .args .may)) (s .args .row) (s .args .x) (s .pre .0 .0) (s .pre .0 .1) (s .pre .0 .2)
-          (now (s .args .vis)) _ (now (s .args .waiting)) _ _ (l .vis) (flow (l .due) (l .waiting) (l .h)) (l .seen) e (l .inv)
-          (beyond-refl (words z) (now (s .args .vis))) (k .on-waiting),
+          (now (s .args .vis)) (s .pre .1 .0) _ (now (s .args .waiting)) _ (l .vis) (flow (l .due) (l .waiting) (l .h)) (l .seen) e (l .inv)
+          (k .on-waiting),
       due-done (s .args .z) (now (s .args .rows)) (now (s .args .may)) (s .args .row) (s .args .x) (s .pre .0 .0) (s .pre .0 .1) (s .pre .0 .2)
-          (now (s .args .vis)) _ (now (s .args .waiting)) _ _ (l .vis) (flow (l .due) (l .waiting) (l .h)) (l .seen) e (l .inv)
-          (beyond-refl (words z) (now (s .args .vis))) (k .on-waiting),
+          (now (s .args .vis)) (s .pre .1 .0) _ (now (s .args .waiting)) _ (l .vis) (flow (l .due) (l .waiting) (l .h)) (l .seen) e (l .inv)
+          (k .on-waiting),
       beyond-trans (k .on-due) (l .inv .on-due),
     )
 
@@ -184,7 +186,8 @@ add-seen c =
       arith,
       c .ones .ensures .0,
       seen-le (s .args .z) (now (s .args .rows)) (now (s .args .may)) (s .args .row) (s .args .x) (s .pre .0 .0) (s .pre .0 .1)
-          (s .pre .0 .2) _ _ _ _ _ _ _ _ _ (some l) (l .before .loop .inv) _ (f .before .before .before .before .before .quad-at .ensures) _ _
+          (s .pre .0 .2) _ (s .pre .1 .0) _ _ _ _ _ _ _ _ (some l) (l .before .loop .inv) _
+          (f .before .before .before .before .before .quad-at .ensures) _ _
           (f .before .gate-row .ensures) (full-lt f)
           (f .filled .ensures),
     )
@@ -204,7 +207,8 @@ loop-less c =
     let l = inside f in
     let s = start (l .before) in
     less-left (s .args .z) (now (s .args .rows)) (now (s .args .may)) (s .args .row) (s .args .x) (s .pre .0 .0) (s .pre .0 .1)
-    (s .pre .0 .2) _ _ _ _ _ _ _ _ _ (some l) (l .before .loop .inv) _ (f .before .before .before .before .before .quad-at .ensures) _ _
+    (s .pre .0 .2) _ (s .pre .1 .0) _ _ _ _ _ _ _ _ (some l) (l .before .loop .inv) _
+    (f .before .before .before .before .before .quad-at .ensures) _ _
     (f .before .gate-row .ensures) (full-lt f)
     (f .filled .ensures) _ (a .pass-doors .ensures)
 
@@ -216,7 +220,8 @@ loop-again c =
     let l = inside f in
     let s = start (l .before) in
     flooding-more (s .args .z) (now (s .args .rows)) (now (s .args .may)) (s .args .row) (s .args .x) (s .pre .0 .0) (s .pre .0 .1)
-    (s .pre .0 .2) _ _ _ _ _ _ _ _ _ (some l) (l .before .loop .inv) _ (f .before .before .before .before .before .quad-at .ensures) _ _
+    (s .pre .0 .2) _ (s .pre .1 .0) _ _ _ _ _ _ _ _ (some l) (l .before .loop .inv) _
+    (f .before .before .before .before .before .quad-at .ensures) _ _
     (f .before .gate-row .ensures) (full-lt f)
     (f .filled .ensures) _ (a .pass-doors .ensures) _ (o .ones .ensures .0)
 

@@ -7,6 +7,7 @@ use Rattle.paper.specs.declared.Place.{Place}
 use Rattle.paper.specs.Lattice.{lattice, visitable}
 use Rattle.paper.proofs.Numbers.{cube-place}
 use Rattle.spread.specs.Ways.{planOf}
+use Rattle.spread.proofs.Finish.{empty-closed}
 use Rattle.spread.proofs.Visiting.{visits}
 use Rattle.spread.proofs.Joining.{row-of, row-small, fresh, joined}
 use borrow.Author.Needs.{needs}
@@ -38,7 +39,8 @@ flood-requires c κs =
     let s = lending c in
     let z = s .args .z in
     let p = s .pre .0 in
-    ((p .0, row-of z (s .args .at) (p .1), omega (arith, p .0 .x-high, p .1 .x), p .2, p .3), (s .pre .1 .0, fresh z (p .0), s .pre .1 .1))
+    let c = empty-closed (planOf z (now (s .args .rows)) (now (s .args .may))) _ (s .pre .1 .0) in
+    ((p .0, row-of z (s .args .at) (p .1), omega (arith, p .0 .x-high, p .1 .x), p .2, p .3), (c, fresh z (p .0), s .pre .1 .1))
 
 same-length : tie.Need-same-length
 same-length c = search needs
@@ -58,8 +60,9 @@ returns c =
     record {
       visits = λ s h t.
           let L = lattice z s in
-          visits L (p .0) (planOf z (now (b .args .rows)) (now (b .args .may))) (joined L (p .0) (now (b .args .rows)) (now (b .args .may)) h) at
-          (subst (λ (q : Place). T (visitable L q)) e t) _ _ _ F;
+          let P = planOf z (now (b .args .rows)) (now (b .args .may)) in
+          visits L (p .0) P (joined L (p .0) (now (b .args .rows)) (now (b .args .may)) h) at
+          (subst (λ (q : Place). T (visitable L q)) e t) _ _ _ F (b .pre .1 .0);
       on-vis = F .on-vis;
       on-waiting = F .on-waiting;
     }

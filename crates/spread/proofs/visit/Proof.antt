@@ -1,41 +1,17 @@
 -- The place of the cube, and fewer rows than cubes. Assumes nothing.
 use mathlib.Core.Path.{_≡_, sym, ap, subst, _∙_}
 use mathlib.Core.List.{List}
-use Prim.Native.Nat.{ℕ, _+_, _-_, _≤_}
+use Prim.Native.Nat.{ℕ}
 use native.Mathlib.Omega.{arith}
-use native.Mathlib.Nat.{mul-le-mul}
 use lib.Dec.{T}
-use lib.ListN.{length, drop}
-use lib.Seq.{drop-drop}
-use Rattle.lists.specs.Lists.{Beyond}
-use Rattle.paper.specs.declared.Sizes.{Sizes}
-use Rattle.paper.specs.Lattice.{Lattice, lattice, cubes, cubeNo, cubeAt, visitable, visited}
-use Rattle.paper.specs.Room.{needed}
-use Rattle.paper.specs.Within.{Sized}
+use lib.ListN.{length}
+use Rattle.paper.specs.Lattice.{Lattice, lattice, cubeNo, cubeAt, visitable, visited}
 use Rattle.paper.proofs.Numbers.{cube-back}
 use Rattle.rows.specs.Rows.{HasCubes}
-use Rattle.spread.specs.Ways.{rowsOf}
+use Rattle.spread.proofs.Ways.{rows-few, beyond-more}
 use borrow.Author.Needs.{needs}
 use Rattle.spread.proofs.visit.Statement.{statement}
 use Rattle.spread.proofs.visit.Tie as tie
-
-rows-few : (z : Sizes) → Sized z → rowsOf z ≤ needed z
-unfolding cubes
-rows-few z s =
-    let w : 1 ≤ z .nx - 1 = omega (arith, s .x-low) in
-    let m : rowsOf z ≤ rowsOf z = omega arith in
-    omega (arith, mul-le-mul {n₂ = z .nx - 1} {m₂ = rowsOf z} w m)
-
--- past a longer front there is less to tell
-beyond-more : (m n : ℕ) (l₀ l : List ℕ) → m ≤ n → Beyond m l₀ l → Beyond n l₀ l
-beyond-more m n l₀ l h b =
-    let q : m + (n - m) ≡ n = omega arith in
-    record {
-      same-length = b .same-length;
-      rest =
-          sym (drop-drop (n - m) m l ∙ ap (λ (k : ℕ). drop k l) q)
-          ∙ (ap (drop (n - m)) (b .rest) ∙ (drop-drop (n - m) m l₀ ∙ ap (λ (k : ℕ). drop k l₀) q));
-    }
 
 -- the same cubes, where the start is the same
 from-same : (L : Lattice) (j k : ℕ) → j ≡ k → (vis : List ℕ) → HasCubes (L .size) (visited L j) vis → HasCubes (L .size) (visited L k) vis

@@ -1,6 +1,6 @@
 //! `reads CALL VOLUME`: one call on a volume file, whose samples stand in a heap block that nothing but the call reads, so that
 //! valgrind's dhat counts the call's reads of them (host/reads.sh). CALL is `build` (from the lowest crossed cube), `named` (the same
-//! with its place), `check` (of the sheet's own file), `second` (the build of second.c) or `nothing`.
+//! with its place), `check` (of the sheet's own file), `pieces` (every piece), `second` (the build of second.c) or `nothing`.
 //!
 //! Prints the bytes of that block, the samples, the sheet's vertices and cubes, and the number of the lowest crossed cube.
 
@@ -39,6 +39,7 @@ fn call(name: &str, own: Lattice, start: [usize; 3], file: &[u8], [nv, nt]: [usi
         "build" => Some(abi::build(own, &mut vertices, &mut triangles, work).number),
         "named" => Some(abi::build(named, &mut vertices, &mut triangles, work).number),
         "check" => Some(abi::check(own, file, work).number),
+        "pieces" => Some(abi::pieces(own.sizes, own.samples, &mut vec![0; room::cubes(own.sizes)], work).number),
         "second" => {
             let abi::Work { words, waiting, slots } = work;
             let lent = baseline::Lent { vertices: &mut vertices, triangles: &mut triangles, words, waiting, slots };
@@ -59,7 +60,7 @@ fn run(name: &str, path: &str) -> Result<String, String> {
     match call(name, own, start, &file, [built.vertices, built.triangles]) {
         Some(0) => {}
         Some(number) => return Err(format!("{path}: {name} is refused, {number}")),
-        None => return Err(format!("{name} is none of build, named, check, second, nothing")),
+        None => return Err(format!("{name} is none of build, named, check, pieces, second, nothing")),
     }
     let (bytes, count) = (2 * (samples.len() + MORE), room::samples(volume.sizes));
     let [x, y, z] = start;
@@ -71,7 +72,7 @@ fn main() -> ExitCode {
     let words: Vec<String> = std::env::args().skip(1).collect();
     let said = match &words[..] {
         [name, path] => run(name, path),
-        _ => Err("reads CALL VOLUME: build, named, check, second or nothing on a volume file".to_string()),
+        _ => Err("reads CALL VOLUME: build, named, check, pieces, second or nothing on a volume file".to_string()),
     };
     match said {
         Ok(text) => {

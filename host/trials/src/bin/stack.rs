@@ -6,7 +6,7 @@ use std::process::ExitCode;
 use trials::cases::{case, content, output_room, sheet_counts, sizes, Case, Lent};
 use trials::random::Random;
 use trials::stack::{depth, on_thread, NEAR};
-use trials::{damage, volumes};
+use trials::{damage, pieces, volumes};
 
 /// The most bytes of each function, and how many calls there were.
 #[derive(Default)]
@@ -25,10 +25,11 @@ impl Depths {
         answer.expect("the call was made")
     }
 
-    /// A build in a room, and a check of a file.
+    /// A build in a room, a check of a file, and a search for pieces.
     fn lattice(&mut self, case: &Case, lent: &mut Lent, file: &[u8]) {
         self.call("build", || lent.library_build(case));
         self.call("check", || lent.library_check(case, file));
+        self.call("pieces", || lent.library_pieces(case));
     }
 
     /// A file read, what it holds written again, and to STL and back; room is as long as the file.
@@ -72,11 +73,20 @@ fn round(depths: &mut Depths, random: &mut Random) {
     depths.file(case.sizes, &file);
 }
 
+/// A search in a lattice of many pieces, or of pieces at the borders of blocks.
+fn search(depths: &mut Depths, random: &mut Random) {
+    let case = pieces::case(random);
+    let list = random.below(50);
+    let mut lent = Lent::doubtful(random, case.sizes, [0, list]);
+    depths.call("pieces", || lent.library_pieces(&case));
+}
+
 fn measured(rounds: u64) -> Depths {
     let (mut depths, mut random) = (Depths::default(), Random::new(3));
     let named = volumes::all().into_iter().chain(volumes::small());
     named.for_each(|(_, case)| whole(&mut depths, &mut random, &case));
     (0..rounds).for_each(|_| round(&mut depths, &mut random));
+    (0..rounds).for_each(|_| search(&mut depths, &mut random));
     depths
 }
 

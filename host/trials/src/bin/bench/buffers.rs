@@ -11,6 +11,8 @@ pub struct Buffers {
     waiting: Vec<u32>,
     slots: Vec<u32>,
     pub bytes: Vec<u8>,
+    /// The lowest cubes of pieces.
+    pub list: Vec<u32>,
 }
 
 const SAMPLES: usize = 64 * 64 * 64;
@@ -25,6 +27,7 @@ impl Buffers {
             waiting: vec![1; CUBES],
             slots: vec![1; 7 * SAMPLES],
             bytes: vec![1; 16 * 7 * SAMPLES + 12 * 12 * CUBES + 24],
+            list: vec![1; CUBES],
         }
     }
 
@@ -38,6 +41,7 @@ impl Buffers {
     pub fn clear_output(&mut self) {
         self.vertices.fill(0);
         self.triangles.fill(0);
+        self.list.fill(0);
     }
 
     /// Both answer the number, and the counts of vertices, triangles and cubes.
@@ -69,6 +73,20 @@ impl Buffers {
     pub fn check(&mut self, case: &Case, file: &[u8]) -> usize {
         let work = Work { words: &mut self.words, waiting: &mut self.waiting, slots: &mut self.slots };
         abi::check(case.lattice(), file, work).number
+    }
+
+    /// Answers the number and how many pieces there are.
+    pub fn pieces(&mut self, case: &Case) -> [usize; 2] {
+        let work = Work { words: &mut self.words, waiting: &mut self.waiting, slots: &mut self.slots };
+        let found = abi::pieces(sizes(case.sizes), &case.samples, &mut self.list, work);
+        [found.number, found.pieces]
+    }
+
+    /// By a plain scan of cube after cube.
+    pub fn second_pieces(&mut self, case: &Case) -> [usize; 2] {
+        let mut work = second::Work { words: &mut self.words, waiting: &mut self.waiting, slots: &mut self.slots };
+        let found = second::pieces(case.sizes, &case.samples, &mut self.list, &mut work);
+        [found.number, found.pieces]
     }
 
     /// The second mesher of the trials, on coordinates and maps: its build and its check.

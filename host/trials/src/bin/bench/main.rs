@@ -85,6 +85,12 @@ impl Bench {
             let (by_c, by_build, apart, by_own) = (own / c, own / build, shuffled / c, shuffled / own);
             println!("{name:7} {own:7.3}  {by_c:12.2}  {by_build:9.2}  {shuffled:11.3}  {apart:17.2}  {by_own:12.2}");
         }
+        println!("\nevery piece  pieces  find ms  build ms  find/build");
+        for Row { name, pieces, times, .. } in self.rows() {
+            let [find, build] = [times.find, times.build].map(ms);
+            let ratio = find / build;
+            println!("{name:11} {pieces:7}  {find:7.3}  {build:8.3}  {ratio:10.2}");
+        }
         println!("\nns a sample   axis  second.c   build   check  shuffled  build/second.c  check/second.c  shuffled/second.c");
         let largest = self.full.iter().map(|(row, ..)| row).filter(|row| row.name == "noise");
         for row in self.growing.iter().chain(largest) {

@@ -12,6 +12,7 @@ pub struct Row {
     pub case: Case,
     pub nv: usize,
     pub nt: usize,
+    pub pieces: usize,
     file: Vec<u8>,
     shuffled: Vec<u8>,
     pub times: Times,
@@ -26,6 +27,8 @@ pub struct Times {
     pub check: Duration,
     /// The check of the shuffled file.
     pub shuffled: Duration,
+    /// The search for every piece.
+    pub find: Duration,
     /// The second mesher of the trials.
     pub second_build: Duration,
     pub second_check: Duration,
@@ -41,8 +44,19 @@ pub fn time<T>(least: &mut Duration, call: impl FnOnce() -> T) {
     *least = began.elapsed().min(*least);
 }
 
+/// How many pieces a volume has, where the library and a plain scan give the same list.
+fn agreed_pieces(buffers: &mut Buffers, case: &Case) -> Option<usize> {
+    buffers.clear();
+    let scanned = (buffers.second_pieces(case), buffers.list.clone());
+    buffers.clear();
+    let found = (buffers.pieces(case), buffers.list.clone());
+    let [number, pieces] = found.0;
+    (number == 0 && found == scanned).then_some(pieces)
+}
+
 impl Row {
-    /// Before times mean anything: both meshers give the same sheet, and the check accepts its file in both orders.
+    /// Before times mean anything: both meshers give the same sheet, the check accepts its file in both orders, and the list of pieces
+    /// is a plain scan's.
     pub fn new(buffers: &mut Buffers, name: &'static str, case: Case) -> Result<Row, String> {
         buffers.clear();
         let by_c = buffers.c(&case);
@@ -67,6 +81,8 @@ impl Row {
                 number => return Err(format!("{name}: the check refuses the file in {order} order, {number}")),
             }
         }
+        let pieces =
+            agreed_pieces(buffers, &case).ok_or(format!("{name}: the library and a plain scan do not agree"))?;
         let longest = Duration::MAX;
         let times = Times {
             c: longest,
@@ -75,17 +91,18 @@ impl Row {
             read: longest,
             check: longest,
             shuffled: longest,
+            find: longest,
             second_build: longest,
             second_check: longest,
         };
-        Ok(Row { name, case, nv, nt, file, shuffled, times })
+        Ok(Row { name, case, nv, nt, pieces, file, shuffled, times })
     }
 
     pub fn samples(&self) -> usize {
         self.case.samples.len()
     }
 
-    /// Builds and checks.
+    /// Builds, checks and searches.
     pub fn measure(&mut self, buffers: &mut Buffers) {
         let Row { case, file, shuffled, times, .. } = self;
         buffers.clear();
@@ -96,6 +113,8 @@ impl Row {
         time(&mut times.check, || buffers.check(case, file));
         buffers.clear();
         time(&mut times.shuffled, || buffers.check(case, shuffled));
+        buffers.clear();
+        time(&mut times.find, || buffers.pieces(case));
     }
 
     /// Files.
