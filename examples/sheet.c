@@ -55,7 +55,8 @@ int main(int count, char **words)
     if (!file || fwrite(bytes, 1, wrote.bytes, file) != wrote.bytes || fclose(file)) { perror(words[2]); return 2; }
 
     malxuqeed_verdict verdict =
-        malxuqeed_check(sizes, MALXUQEED_FROM_LOWEST, nowhere, samples, n, bytes, wrote.bytes, cube_words, nw, waiting, nl, slots, ns);
+        malxuqeed_check(sizes, MALXUQEED_FROM_LOWEST, nowhere, MALXUQEED_RULE_NEAREST, samples, n, bytes, wrote.bytes, cube_words,
+            nw, waiting, nl, slots, ns);
     if (verdict.number != MALXUQEED_OK) return refused("checking", verdict.number);
     printf("%zu %zu %zu, %zu bytes, accepted\n", built.vertices, built.triangles, built.cubes, wrote.bytes);
     return 0;

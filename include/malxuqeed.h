@@ -39,6 +39,11 @@ typedef struct { size_t x, y, z; } malxuqeed_place;
 #define MALXUQEED_FROM_LOWEST 1
 #define MALXUQEED_FROM_CUBE 2
 
+/* How the positions of a sheet file were rounded: 0, down, as builds before document 02 (vi) rounded them; any other number, to
+ * the nearest unit, as malxuqeed_build does. */
+#define MALXUQEED_RULE_DOWN 0
+#define MALXUQEED_RULE_NEAREST 1
+
 /* The numbers of documents 01 and 02; malxuqeed_meaning says each in a sentence. */
 typedef enum {
     MALXUQEED_OK = 0,
@@ -160,7 +165,7 @@ typedef struct { size_t number, place, facets; } malxuqeed_loaded;
 typedef struct { size_t number, pieces; } malxuqeed_found;
 
 /* Builds the sheet through a start cube, which from and start tell (MALXUQEED_FROM_DEFAULT and so on). Vertices are records of
- * four numbers (edge, x, y, z; coordinates in 1/65536 of a sample step), triangles three vertex numbers.
+ * four numbers (edge, x, y, z; coordinates in 1/65536 of a sample step, rounded to the nearest), triangles three vertex numbers.
  * Tests 1 to 7. The counts are true at 0, 6 and 7, else 0. */
 malxuqeed_built malxuqeed_build(malxuqeed_sizes sizes, uint32_t from, malxuqeed_place start, const int16_t *samples,
     size_t samples_len, int32_t *vertices, size_t vertices_len, uint32_t *triangles, size_t triangles_len, uint16_t *words,
@@ -174,10 +179,11 @@ malxuqeed_wrote malxuqeed_write(malxuqeed_sizes sizes, size_t nv, size_t nt, con
 malxuqeed_got malxuqeed_read(const uint8_t *bytes, size_t bytes_len, int32_t *vertices, size_t vertices_len,
     uint32_t *triangles, size_t triangles_len);
 
-/* Checks a sheet file against its samples: 0 exactly when it holds the sheet from that start, in any order. Tests 1 to 5, then
+/* Checks a sheet file against its samples: 0 exactly when it holds the sheet from that start, rounded by that rule
+ * (MALXUQEED_RULE_DOWN, MALXUQEED_RULE_NEAREST), in any order. Tests 1 to 5, then
  * 11, 12, 1, 14, 15, then 16 to 19. The place is that of the first wrong record or triangle at 15, 17 and 18, else 0. */
-malxuqeed_verdict malxuqeed_check(malxuqeed_sizes sizes, uint32_t from, malxuqeed_place start, const int16_t *samples,
-    size_t samples_len, const uint8_t *bytes, size_t bytes_len, uint16_t *words, size_t words_len, uint32_t *waiting,
+malxuqeed_verdict malxuqeed_check(malxuqeed_sizes sizes, uint32_t from, malxuqeed_place start, uint32_t rule,
+    const int16_t *samples, size_t samples_len, const uint8_t *bytes, size_t bytes_len, uint16_t *words, size_t words_len, uint32_t *waiting,
     size_t waiting_len, uint32_t *slots, size_t slots_len);
 
 /* Finds every piece: all that is reached from a crossed cube by steps through mixed faces, into cubes free of the fill. The list

@@ -1,5 +1,5 @@
 /* The proved library as a process: for a machine whose processor the library's code is not for, under an emulator.
- * It needs no C library. A request on standard input is eight numbers (the function, then its plain arguments), the
+ * It needs no C library. A request on standard input is nine numbers (the function, then its plain arguments), the
  * count of slices, the length of each in bytes, and their contents; all numbers are 64 bits wide. The answer on
  * standard output is eight numbers, the last of which is 1 if no byte beside a slice was written, and the slices. */
 
@@ -23,7 +23,7 @@ typedef struct { usize number, pieces; } found;
 extern built malxuqeed_build(sizes, u32, place, const i16 *, usize, i32 *, usize, u32 *, usize, u16 *, usize, u32 *, usize, u32 *, usize);
 extern wrote malxuqeed_write(sizes, usize, usize, const i32 *, usize, const u32 *, usize, u8 *, usize);
 extern got malxuqeed_read(const u8 *, usize, i32 *, usize, u32 *, usize);
-extern verdict malxuqeed_check(sizes, u32, place, const i16 *, usize, const u8 *, usize, u16 *, usize, u32 *, usize, u32 *, usize);
+extern verdict malxuqeed_check(sizes, u32, place, u32, const i16 *, usize, const u8 *, usize, u16 *, usize, u32 *, usize, u32 *, usize);
 extern wrote malxuqeed_stl_write(usize, usize, const i32 *, usize, const u32 *, usize, u8 *, usize);
 extern loaded malxuqeed_stl_read(const u8 *, usize, i32 *, usize);
 extern verdict malxuqeed_convert(_Bool, float, float, u32, const float *, usize, i16 *, usize);
@@ -142,7 +142,7 @@ static void serve(const u64 *asked, u64 *answer)
         break;
     }
     case 3: {
-        verdict r = malxuqeed_check(z, (u32)asked[4], start, S(0, i16), S(1, u8), S(2, u16), S(3, u32), S(4, u32));
+        verdict r = malxuqeed_check(z, (u32)asked[4], start, (u32)asked[8], S(0, i16), S(1, u8), S(2, u16), S(3, u32), S(4, u32));
         answer[0] = r.number; answer[1] = r.place;
         break;
     }
@@ -173,7 +173,7 @@ static void serve(const u64 *asked, u64 *answer)
 __attribute__((used)) static void run(void)
 {
     for (;;) {
-        u64 asked[8], count, answer[8] = {0};
+        u64 asked[9], count, answer[8] = {0};
         get(asked, sizeof asked);
         get(&count, sizeof count);
         if (count > SLICES) leave(1);

@@ -11,8 +11,8 @@ define void @malxuqeed_read(ptr sret([56 x i8]) align 8 %out, ptr %b, i64 %bn, p
   %r = call ptr @lowered_read(ptr %out, ptr %b, i64 %bn, ptr %v, i64 %vn, ptr %t, i64 %tn)
   ret void
 }
-define { i64, i64 } @malxuqeed_check(ptr %sizes, i32 %from, ptr %start, ptr %s, i64 %sn, ptr %b, i64 %bn, ptr %w, i64 %wn, ptr %l, i64 %ln, ptr %e, i64 %en) {
-  %r = call { i64, i64 } @lowered_check(ptr byval([24 x i8]) align 8 %sizes, i32 %from, ptr byval([24 x i8]) align 8 %start, ptr %s, i64 %sn, ptr %b, i64 %bn, ptr %w, i64 %wn, ptr %l, i64 %ln, ptr %e, i64 %en)
+define { i64, i64 } @malxuqeed_check(ptr %sizes, i32 %from, ptr %start, i32 %rule, ptr %s, i64 %sn, ptr %b, i64 %bn, ptr %w, i64 %wn, ptr %l, i64 %ln, ptr %e, i64 %en) {
+  %r = call { i64, i64 } @lowered_check(ptr byval([24 x i8]) align 8 %sizes, i32 %from, ptr byval([24 x i8]) align 8 %start, i32 %rule, ptr %s, i64 %sn, ptr %b, i64 %bn, ptr %w, i64 %wn, ptr %l, i64 %ln, ptr %e, i64 %en)
   ret { i64, i64 } %r
 }
 define void @malxuqeed_stl_write(ptr sret([24 x i8]) align 8 %out, i64 %nv, i64 %nt, ptr %v, i64 %vn, ptr %t, i64 %tn, ptr %b, i64 %bn) {

@@ -1,6 +1,6 @@
 //! The command line.
 
-use crate::abi::{self, Place};
+use crate::abi::{self, Place, Rule};
 use crate::command::{Command, Opt};
 use crate::commands::{help, version, COMMANDS};
 use crate::failure::{escaped, Failure};
@@ -78,6 +78,17 @@ impl Given {
             )),
         }
     }
+
+    /// The rule that `--rule` names.
+    pub fn rule(&self, option: &Opt) -> Result<Rule, Failure> {
+        let Some(value) = self.get(option) else { return Ok(Rule::default()) };
+        rule(value.as_bytes()).map_or_else(|| usage("--rule takes down or nearest"), Ok)
+    }
+}
+
+/// A rule of rounding by its name.
+pub fn rule(text: &[u8]) -> Option<Rule> {
+    Rule::BOTH.into_iter().find(|rule| rule.name().as_bytes() == text)
 }
 
 /// Three whole numbers from 0, parted by commas. One too large for a word is cut to the largest, which is as far out.
@@ -177,7 +188,7 @@ pub fn parse(args: &[OsString]) -> Result<(&'static Command, Given), Failure> {
 #[cfg(test)]
 mod tests {
     use super::*;
-    use crate::command::{START, START_OR_AUTO};
+    use crate::command::{RULE, START, START_OR_AUTO};
 
     fn parsed(line: &str) -> Result<(&'static Command, Given), Failure> {
         parse(&line.split_whitespace().map(OsString::from).collect::<Vec<_>>())
@@ -207,6 +218,14 @@ mod tests {
             assert_eq!(given.start(&START).ok(), Some(Start::Lowest));
             assert_eq!(given.start(&START_OR_AUTO).ok(), Some(Start::Lowest));
         }
+        for (line, rule) in
+            [("check v s", Rule::Nearest), ("check v s --rule nearest", Rule::Nearest), ("audit m --rule=down", Rule::Down)]
+        {
+            let (_, given) = parsed(line).expect("a good line");
+            assert_eq!(given.rule(&RULE).ok(), Some(rule));
+        }
+        let (_, given) = parsed("check v s --rule up").expect("a good line but for the rule");
+        assert!(given.rule(&RULE).is_err());
         assert_eq!(parsed("list").map(|(_, given)| given.maybe(0).is_none()).ok(), Some(true));
         assert_eq!(parsed("show -- --help").map(|(_, given)| given.name(0) == Path::new("--help")).ok(), Some(true));
         let asked =

@@ -68,6 +68,14 @@ pub const START_OR_AUTO: Opt = Opt::with(
      sheet itself: the cubes round its first vertex are tried, and the answer says which one was taken",
 );
 
+/// The rule of rounding that a sheet was made under.
+pub const RULE: Opt = Opt::with(
+    "--rule",
+    "down|nearest",
+    "how the positions of the sheet were rounded: nearest, as build rounds them and as is taken without this, or down, as builds \
+     before document 02 (vi) rounded them",
+);
+
 /// Of every command that writes a file.
 pub const FORCE: Opt = Opt::switch("--force", "replace a file that is write-protected");
 

@@ -1,6 +1,7 @@
-//! Which triangles of a file are wrong, one by one. The sheet to compare with is the library's own.
+//! Which triangles of a file are wrong, one by one. The sheet to compare with is the library's own, with its positions rounded
+//! down here where a file was made under that rule, since the library builds to nearest alone.
 
-use crate::abi::{Place, Start};
+use crate::abi::{Place, Rule, Sizes, Start};
 use crate::room::Room;
 use crate::sheet::Sheet;
 use crate::volume::Volume;
@@ -36,10 +37,49 @@ impl Marks {
     }
 }
 
-/// The marks of a file against the sheet from a cube, or from the lowest crossed one; none where there is no sheet to compare with.
-pub fn marks(file: &Sheet, volume: &Volume, start: Option<Place>, room: &mut Room) -> Option<Marks> {
-    let (built, sheet) = Sheet::build(volume, start.map_or(Start::Lowest, Start::Cube), room);
-    if built.number != 0 || file.sizes != sheet.sizes {
+/// The ends of each kind of edge, from its anchor.
+const ENDS: [[[usize; 3]; 2]; 7] = [
+    [[0, 0, 0], [1, 0, 0]],
+    [[0, 0, 0], [0, 1, 0]],
+    [[0, 0, 0], [0, 0, 1]],
+    [[0, 1, 0], [0, 0, 1]],
+    [[1, 0, 0], [0, 0, 1]],
+    [[0, 1, 0], [1, 0, 0]],
+    [[1, 1, 0], [0, 0, 1]],
+];
+
+/// The record of the vertex on an edge of a volume, its position rounded down.
+fn rounded_down(edge: i32, volume: &Volume) -> Option<[i32; 4]> {
+    let Sizes { nx, ny, .. } = volume.sizes;
+    let (anchor, kind) = (edge as usize / 7, edge as usize % 7);
+    let at = [anchor % nx, anchor / nx % ny, anchor / nx / ny];
+    let [from, to] = ENDS[kind].map(|end| [at[0] + end[0], at[1] + end[1], at[2] + end[2]]);
+    let sample = |[x, y, z]: [usize; 3]| volume.samples.get(x + nx * (y + ny * z)).map(|sample| i64::from(*sample));
+    let (solid, air) = if sample(from)? > 0 { (to, from) } else { (from, to) };
+    let (p, q) = (sample(solid)?, sample(air)?);
+    let t = 65_536 * -p / (q - p);
+    let on = |axis: usize| (65_536 * solid[axis] as i64 + (air[axis] as i64 - solid[axis] as i64) * t) as i32;
+    Some([edge, on(0), on(1), on(2)])
+}
+
+/// The sheet to compare a file with that was made under a rule.
+fn sheet_under(rule: Rule, volume: &Volume, start: Start, room: &mut Room) -> Option<Sheet> {
+    let (built, mut sheet) = Sheet::build(volume, start, room);
+    if built.number != 0 {
+        return None;
+    }
+    if rule == Rule::Down {
+        let records: Option<Vec<[i32; 4]>> = sheet.records().map(|record| rounded_down(record[0], volume)).collect();
+        sheet.vertices = records?.concat();
+    }
+    Some(sheet)
+}
+
+/// The marks of a file, made under a rule, against the sheet from a cube, or from the lowest crossed one; none where there is no
+/// sheet to compare with.
+pub fn marks(file: &Sheet, volume: &Volume, start: Option<Place>, rule: Rule, room: &mut Room) -> Option<Marks> {
+    let sheet = sheet_under(rule, volume, start.map_or(Start::Lowest, Start::Cube), room)?;
+    if file.sizes != sheet.sizes {
         return None;
     }
     let mut positions: HashMap<i32, [i32; 4]> = sheet.records().map(|record| (record[0], record)).collect();

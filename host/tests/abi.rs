@@ -1,6 +1,6 @@
 //! Every function of the library with every argument distinct, so that two in each other's place are noticed.
 
-use host::abi::{self, Built, Found, Got, Lattice, Level, Loaded, Place, Sizes, Start, Verdict, Work, Wrote};
+use host::abi::{self, Built, Found, Got, Lattice, Level, Loaded, Place, Rule, Sizes, Start, Verdict, Work, Wrote};
 
 const SIZES: [usize; 3] = [2, 3, 4];
 const START: [usize; 3] = [0, 1, 2];
@@ -47,8 +47,12 @@ impl Lent {
     }
 
     fn check(&mut self, lattice: Lattice, bytes: &[u8]) -> Verdict {
+        self.check_under(Rule::Nearest, lattice, bytes)
+    }
+
+    fn check_under(&mut self, rule: Rule, lattice: Lattice, bytes: &[u8]) -> Verdict {
         let work = Work { words: &mut self.words, waiting: &mut self.waiting, slots: &mut self.slots };
-        abi::check(lattice, bytes, work)
+        abi::check(rule, lattice, bytes, work)
     }
 
     fn second_build(&mut self, volume: second::Volume) -> [usize; 4] {
@@ -192,6 +196,25 @@ fn check() {
         let mut lent = Lent::new();
         shorten(&mut lent);
         assert_eq!(lent.check(lattice(&samples), &file).number, 3);
+    }
+}
+
+/// A file of each rule, under each: t for -2 and 1 is 43690 down and 43691 to nearest, and a build makes the second.
+#[test]
+fn check_under_each_rule() {
+    let samples = [1, -2, -2, -2, -2, -2, -2, -2];
+    let lattice = Lattice { sizes: Sizes { nx: 2, ny: 2, nz: 2 }, start: Start::Lowest, samples: &samples };
+    let mut lent = Lent::new();
+    assert_eq!(lent.build(lattice).number, 0);
+    assert_eq!(lent.vertices[..4], [0, 65_536 - 43_691, 0, 0]);
+    for (made, t) in [(Rule::Down, 43_690), (Rule::Nearest, 43_691)] {
+        let u = 65_536 - t;
+        let records = vec![[0, u, 0, 0], [1, 0, u, 0], [2, 0, 0, u]];
+        let file = second::serialize(&second::Content { sizes: [2; 3], records, triangles: vec![[1, 2, 0]] });
+        for rule in Rule::BOTH {
+            let number = if rule == made { 0 } else { 17 };
+            assert_eq!(Lent::new().check_under(rule, lattice, &file), Verdict { number, place: 0 });
+        }
     }
 }
 

@@ -40,12 +40,12 @@ fn an_archive_without_starts_gives_206_33_and_1() {
     let csv = String::from_utf8(folder.get("a.csv")).expect("text");
     let mut rows = csv.lines();
     let columns =
-        "volume,sheet,start,verdict,number,place,vertices,triangles,wrong_triangles,volume_sha256,sheet_sha256";
+        "volume,sheet,start,verdict,number,place,vertices,triangles,wrong_triangles,volume_sha256,sheet_sha256,rule";
     assert_eq!(rows.next(), Some(columns));
     let rows: Vec<Vec<&str>> = rows.map(|row| row.split(',').collect()).collect();
     assert_eq!(rows.len(), 240);
     for (row, sheet) in rows.iter().zip(&archived) {
-        assert_eq!((row.len(), row[0], row[1]), (11, sheet.volume.as_str(), sheet.sheet.as_str()));
+        assert_eq!((row.len(), row[0], row[1]), (12, sheet.volume.as_str(), sheet.sheet.as_str()));
         assert!(fits(sheet.kind, row[3], row[4]), "{row:?} is {:?}", sheet.kind);
         if sheet.kind == Kind::Sound {
             assert_eq!(row[8], "0");
@@ -63,7 +63,7 @@ fn wrong_triangles(folder: &Folder, row: &[&str]) -> usize {
     let (sizes, samples) = second::volume(&folder.get(row[0])).expect("a volume");
     let start: Vec<i64> = row[2].split(' ').map(|v| v.parse().expect("a number")).collect();
     let lattice = second::Lattice::new(sizes, &samples).expect("a lattice");
-    let sheet = second::Sheet::of(&lattice, second::Point::new(start[0], start[1], start[2]));
+    let sheet = second::Sheet::of(second::Rule::Nearest, &lattice, second::Point::new(start[0], start[1], start[2]));
     let turned = |[a, b, c]: [i64; 3]| [[a, b, c], [b, c, a], [c, a, b]].into_iter().min();
     let mut right: HashSet<_> =
         sheet.triangles.iter().map(|triangle| turned(triangle.map(|edge| edge.number(&lattice)))).collect();
@@ -113,9 +113,9 @@ fn json(folder: &Folder, rows: &[Vec<&str>]) {
         let number = |text: &str| if text.is_empty() { "null".to_string() } else { text.to_string() };
         let object = format!(
             "{{\"volume\": \"{}\", \"sheet\": \"{}\", \"start\": {}, \"verdict\": \"{}\", \"number\": {}, \"place\": {}, \
-             \"vertices\": {}, \"triangles\": {}, \"wrong_triangles\": {}, \"volume_sha256\": {}, \"sheet_sha256\": {}}}",
+             \"vertices\": {}, \"triangles\": {}, \"wrong_triangles\": {}, \"volume_sha256\": {}, \"sheet_sha256\": {}, \"rule\": {}}}",
             row[0], row[1], field(row[2]), row[3], number(row[4]), number(row[5]), number(row[6]), number(row[7]),
-            number(row[8]), field(row[9]), field(row[10])
+            number(row[8]), field(row[9]), field(row[10]), field(row[11])
         );
         assert!(json.contains(&object), "{object}");
     }

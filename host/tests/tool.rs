@@ -268,3 +268,43 @@ fn a_full_lattice() {
     let show = folder.run("show v.sheet");
     assert!(show.output.split_once('\n').map(|(_, rest)| rest) == expected.split_once('\n').map(|(_, rest)| rest));
 }
+
+/// Sheets of both rules of rounding, document 02 (vi): t for -2 and 1 is 43690 down and 43691 to nearest, and build makes the second.
+#[test]
+fn rules_of_rounding() {
+    let folder = Folder::new("rules");
+    folder.put("v.raw", &volume([2, 2, 2], &[1, -2, -2, -2, -2, -2, -2, -2]));
+    folder.run("build v.raw new.sheet --start lowest").well("3 1 1\n");
+    folder.run("show new.sheet").well("3 1 2 2 2\nv 0 21845 0 0\nv 1 0 21845 0\nv 2 0 0 21845\nt 1 2 0\n");
+    let records = vec![[0, 21_846, 0, 0], [1, 0, 21_846, 0], [2, 0, 0, 21_846]];
+    let old = second::Content { sizes: [2; 3], records, triangles: vec![[1, 2, 0]] };
+    folder.put("old.sheet", &second::serialize(&old));
+    for (sheet, own, other) in [("new", "nearest", "down"), ("old", "down", "nearest")] {
+        folder.run(&format!("check v.raw {sheet}.sheet --start lowest --rule {own}")).well("accepted\n");
+        let run = folder.run(&format!("check v.raw {sheet}.sheet --start lowest --rule {other}"));
+        assert_eq!((run.status, run.output.as_str()), (Some(1), "refused 17 0\n"), "{run:?}");
+        assert!(run.errors.contains(&format!("Under --rule {own} it is accepted")), "{run:?}");
+    }
+    folder.run("check v.raw new.sheet --start auto").well("accepted\nstart 0,0,0\n");
+    folder.run("check v.raw new.sheet --rule up").failed_with("--rule takes down or nearest");
+    // a sheet that neither rule accepts is not said to be of the other
+    let mut wrong = old.clone();
+    wrong.records[1][2] += 5;
+    folder.put("wrong.sheet", &second::serialize(&wrong));
+    let run = folder.run("check v.raw wrong.sheet --start lowest --rule down");
+    assert!(run.status == Some(1) && !run.errors.contains("it is accepted"), "{run:?}");
+
+    folder.put("m", b"v.raw new.sheet\nv.raw old.sheet down\nv.raw old.sheet lowest\n");
+    let run = folder.run("audit m --csv a.csv");
+    let lines = "accepted v.raw new.sheet 0,0,0\naccepted v.raw old.sheet 0,0,0\n\
+                 refused 17 0 v.raw old.sheet 0,0,0, accepted under down\nsheets 3, accepted 2, refused 1, unread 0\n";
+    assert!(run.status == Some(1) && run.output.starts_with(lines), "{run:?}");
+    let csv = String::from_utf8(folder.get("a.csv")).expect("text");
+    let rules: Vec<&str> = csv.lines().skip(1).filter_map(|line| line.rsplit(',').next()).collect();
+    assert_eq!(rules, ["nearest", "down", "nearest"]);
+    let run = folder.run("audit m --rule down");
+    assert!(run.output.contains("refused 17 0 v.raw new.sheet 0,0,0, accepted under nearest\n"), "{run:?}");
+    // no triangle of a sheet of the older rule is marked under it
+    let run = folder.run("picture old.sheet p.png --volume v.raw --rule down");
+    assert!(run.output.contains("accepted start 0,0,0 wrong 0"), "{run:?}");
+}

@@ -7,6 +7,7 @@ use Rattle.lists.proofs.Within.{any-member}
 use Rattle.lists.proofs.Counts.{count-some}
 use Rattle.paper.specs.declared.Start.{Start}
 use Rattle.paper.specs.declared.Verdict.{Verdict}
+use Rattle.paper.specs.declared.Rule.{Rule}
 use Rattle.paper.specs.Lattice.{Lattice}
 use Rattle.paper.specs.Sheet.{Sheet, sheetOf, vertexRecord}
 use Rattle.paper.specs.Tests.{Test, judge}
@@ -23,12 +24,12 @@ use Rattle.holding.proofs.Alike.{often, matching}
 use Rattle.holding.proofs.Matches.{same-sizes, sizes-same, thin, Match, passes-match, match-passes, thin-us, MatchTri, passes-tri, tri-passes}
 use Rattle.acceptance.specs.Holding.{fileRecords, fileTriples, Acceptable, Exactly, EachOnce}
 
-module _ (L : Lattice) (s : Start) (bs : List ℕ) (m : Lengths) where
+module _ (rule : Rule) (L : Lattice) (s : Start) (bs : List ℕ) (m : Lengths) where
   abbrev start : ℕ
   start = startOf L s
 
   abbrev S : Sheet
-  S = sheetOf L start
+  S = sheetOf rule L start
 
   abbrev a : List Test
   a = sampleTests L s m
@@ -42,12 +43,12 @@ module _ (L : Lattice) (s : Start) (bs : List ℕ) (m : Lengths) where
   zero : (l : List Test) → Passed l → judge l .number ≡ 0
   zero l p = ap (λ (v : Verdict). v .number) (passed-judge l p)
 
-  accepts : checked L s bs m .number ≡ 0 → Acceptable L s bs m
+  accepts : checked rule L s bs m .number ≡ 0 → Acceptable rule L s bs m
   unfolding fileRecords fileTriples
   accepts n =
-      let p = all-passed L s bs m n in
+      let p = all-passed rule L s bs m n in
       let t = sample-passed L s m (p .0) in
-      let k = compared (L .size) (vertexRecord L) S bs (parts L start .records) (p .2) in
+      let k = compared (L .size) (vertexRecord rule L) S bs (parts rule L start .records) (p .2) in
       let vs = fileVertices bs in
       let ts = fileTriangles bs in
       record {
@@ -55,21 +56,21 @@ module _ (L : Lattice) (s : Start) (bs : List ℕ) (m : Lengths) where
         file = zero b (p .1);
         sizes = same-sizes (fileSizes bs) (L .size) (k .sizes);
         holds = record {
-          vertices = often _ _ _ _ _ _ _ _ (passes-match L start vs (fileV bs) (record { good = k .records; full = k .full .vertices }));
-          triangles = often _ _ _ _ _ _ _ _ (passes-tri L (t .sizes) start (t .start) vs ts (fileT bs) (record { good = k .triangles; full = k .full .triangles }));
+          vertices = often _ _ _ _ _ _ _ _ (passes-match rule L start vs (fileV bs) (record { good = k .records; full = k .full .vertices }));
+          triangles = often _ _ _ _ _ _ _ _ (passes-tri rule L (t .sizes) start (t .start) vs ts (fileT bs) (record { good = k .triangles; full = k .full .triangles }));
         };
       }
 
-  accepted : Acceptable L s bs m → checked L s bs m .number ≡ 0
+  accepted : Acceptable rule L s bs m → checked rule L s bs m .number ≡ 0
   unfolding checked fileRecords fileTriples
   accepted h =
       let t = sample-tests L s m (h .samples) in
       let vs = fileVertices bs in
       let ts = fileTriangles bs in
-      let v = match-passes L start vs (fileV bs) (matching _ _ _ _ _ _ _ _ (h .holds .vertices)) in
-      let u = tri-passes L (t .sizes) start (t .start) vs ts (fileT bs) (matching _ _ _ _ _ _ _ _ (h .holds .triangles)) in
+      let v = match-passes rule L start vs (fileV bs) (matching _ _ _ _ _ _ _ _ (h .holds .vertices)) in
+      let u = tri-passes rule L (t .sizes) start (t .start) vs ts (fileT bs) (matching _ _ _ _ _ _ _ _ (h .holds .triangles)) in
       let last =
-      compared-back (L .size) (vertexRecord L) S bs (parts L start .records)
+      compared-back (L .size) (vertexRecord rule L) S bs (parts rule L start .records)
       (record {
         sizes = sizes-same (fileSizes bs) (L .size) (h .sizes);
         records = v .good;
@@ -79,26 +80,26 @@ module _ (L : Lattice) (s : Start) (bs : List ℕ) (m : Lengths) where
       zero (a ++ b ++ c) (both-passed (a ++ b) c (both-passed a b (judge-all a (sample-numbered L s m) (h .samples)) (judge-all b (file-numbered bs) (h .file))) last)
 
   -- the theorem
-  pub accepted-exactly : Exactly L s bs m
+  pub accepted-exactly : Exactly rule L s bs m
   accepted-exactly = record { only = accepts; always = accepted }
 
   -- "each once"
-  pub accepted-once : Acceptable L s bs m → EachOnce L start bs
+  pub accepted-once : Acceptable rule L s bs m → EachOnce rule L start bs
   unfolding fileRecords fileTriples
   accepted-once h =
       let t = sample-tests L s m (h .samples) in
       let vs = fileVertices bs in
       let ts = fileTriangles bs in
-      let k : Match L start vs (fileV bs) = matching _ _ _ _ _ _ _ _ (h .holds .vertices) in
-      let n : MatchTri L (t .sizes) start (t .start) vs ts (fileT bs) = matching _ _ _ _ _ _ _ _ (h .holds .triangles) in
+      let k : Match rule L start vs (fileV bs) = matching _ _ _ _ _ _ _ _ (h .holds .vertices) in
+      let n : MatchTri rule L (t .sizes) start (t .start) vs ts (fileT bs) = matching _ _ _ _ _ _ _ _ (h .holds .triangles) in
       record {
         vertex = λ r i.
             let c = count-some (sameNumbers r) i (numbers-same r r refl) in
-            h .holds .vertices r ∙ (let d = thin L start vs (fileV bs) r in omega arith);
+            h .holds .vertices r ∙ (let d = thin rule L start vs (fileV bs) r in omega arith);
         only-vertices = k .sound;
         triangle = λ u i.
             let v = any-member (turned u) (S .byEdge) i in
             let c = count-some (turned u) (v .1) (v .2) in
-            h .holds .triangles u ∙ (let d = thin-us L (t .sizes) start (t .start) vs ts (fileT bs) u in omega arith);
+            h .holds .triangles u ∙ (let d = thin-us rule L (t .sizes) start (t .start) vs ts (fileT bs) u in omega arith);
         only-triangles = n .sound;
       }

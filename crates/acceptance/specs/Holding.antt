@@ -1,5 +1,5 @@
--- What it says that a file holds a sheet: its records and its triangles, named by edges and read from any corner, are the sheet's, in any
--- order and each as often. Assumes nothing.
+-- What it says that a file holds the sheet of a rule: its records and its triangles, named by edges and read from any corner, are the
+-- sheet's, in any order and each as often. Assumes nothing.
 use mathlib.Core.Path.{_≡_}
 use mathlib.Core.List.{List, map, List·Memᴰ as In}
 use Prim.Native.Nat.{ℕ, _<_}
@@ -7,6 +7,7 @@ use lib.Dec.{T}
 use lib.IntN.{ℤ}
 use Rattle.lists.specs.Lists.{range, any, count}
 use Rattle.paper.specs.declared.Start.{Start}
+use Rattle.paper.specs.declared.Rule.{Rule}
 use Rattle.paper.specs.Lattice.{Lattice}
 use Rattle.paper.specs.Tables.{Tri}
 use Rattle.paper.specs.Sheet.{sheetOf}
@@ -23,25 +24,25 @@ fileRecords bs = map (recordOf (fileVertices bs)) (range 0 (fileV bs))
 unfoldable pub fileTriples : List ℕ → List Tri
 fileTriples bs = map (triangleOf (fileVertices bs) (fileTriangles bs)) (range 0 (fileT bs))
 
-pub record Holding (L : Lattice) (start : ℕ) (bs : List ℕ) : Type 0 where
-  pub vertices : (r : List ℤ) → count (sameNumbers r) (fileRecords bs) ≡ count (sameNumbers r) (sheetOf L start .records)
-  pub triangles : (t : Tri) → count (turned t) (fileTriples bs) ≡ count (turned t) (sheetOf L start .byEdge)
+pub record Holding (rule : Rule) (L : Lattice) (start : ℕ) (bs : List ℕ) : Type 0 where
+  pub vertices : (r : List ℤ) → count (sameNumbers r) (fileRecords bs) ≡ count (sameNumbers r) (sheetOf rule L start .records)
+  pub triangles : (t : Tri) → count (turned t) (fileTriples bs) ≡ count (turned t) (sheetOf rule L start .byEdge)
 
 -- the sizes, the start and the work room pass, the file is laid out and has the samples' sizes, and it holds the sheet
-pub record Acceptable (L : Lattice) (s : Start) (bs : List ℕ) (n : Lengths) : Type 0 where
+pub record Acceptable (rule : Rule) (L : Lattice) (s : Start) (bs : List ℕ) (n : Lengths) : Type 0 where
   pub samples : judge (sampleTests L s n) .number ≡ 0
   pub file : judge (fileTests bs) .number ≡ 0
   pub sizes : fileSizes bs ≡ L .size
-  pub holds : Holding L (startOf L s) bs
+  pub holds : Holding rule L (startOf L s) bs
 
 -- a check answers 0 exactly then
-pub record Exactly (L : Lattice) (s : Start) (bs : List ℕ) (n : Lengths) : Type 0 where
-  pub only : checked L s bs n .number ≡ 0 → Acceptable L s bs n
-  pub always : Acceptable L s bs n → checked L s bs n .number ≡ 0
+pub record Exactly (rule : Rule) (L : Lattice) (s : Start) (bs : List ℕ) (n : Lengths) : Type 0 where
+  pub only : checked rule L s bs n .number ≡ 0 → Acceptable rule L s bs n
+  pub always : Acceptable rule L s bs n → checked rule L s bs n .number ≡ 0
 
 -- each vertex and each triangle of the sheet is in the file once, and nothing else is
-pub record EachOnce (L : Lattice) (start : ℕ) (bs : List ℕ) : Type 0 where
-  pub vertex : (r : List ℤ) → In r (sheetOf L start .records) → count (sameNumbers r) (fileRecords bs) ≡ 1
-  pub only-vertices : (i : ℕ) → i < fileV bs → T (any (sameNumbers (recordOf (fileVertices bs) i)) (sheetOf L start .records))
-  pub triangle : (t : Tri) → T (any (turned t) (sheetOf L start .byEdge)) → count (turned t) (fileTriples bs) ≡ 1
-  pub only-triangles : (i : ℕ) → i < fileT bs → T (any (turned (triangleOf (fileVertices bs) (fileTriangles bs) i)) (sheetOf L start .byEdge))
+pub record EachOnce (rule : Rule) (L : Lattice) (start : ℕ) (bs : List ℕ) : Type 0 where
+  pub vertex : (r : List ℤ) → In r (sheetOf rule L start .records) → count (sameNumbers r) (fileRecords bs) ≡ 1
+  pub only-vertices : (i : ℕ) → i < fileV bs → T (any (sameNumbers (recordOf (fileVertices bs) i)) (sheetOf rule L start .records))
+  pub triangle : (t : Tri) → T (any (turned t) (sheetOf rule L start .byEdge)) → count (turned t) (fileTriples bs) ≡ 1
+  pub only-triangles : (i : ℕ) → i < fileT bs → T (any (turned (triangleOf (fileVertices bs) (fileTriangles bs) i)) (sheetOf rule L start .byEdge))

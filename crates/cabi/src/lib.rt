@@ -1,9 +1,10 @@
-// The library for programs in other languages: the entry points under plain names, a start as a number and a place, a level as a flag
-// and two greys.
+// The library for programs in other languages: the entry points under plain names, a start as a number and a place, a rule as a number,
+// a level as a flag and two greys.
 use floats::Level;
 use paper::Built;
 use paper::Got;
 use paper::Place;
+use paper::Rule;
 use paper::Sizes;
 use paper::Start;
 use paper::Verdict;
@@ -19,7 +20,7 @@ ghost use Rattle.paper.specs.Check.{Checks};
 ghost use Rattle.stl.specs.Stl.{StlWrites, StlReads};
 ghost use Rattle.floats.specs.Convert.{Converts};
 ghost use Rattle.pieces.specs.Pieces.{lent as listLent, Finds};
-ghost use Rattle.cabi.specs.Named.{startIf, levelIf};
+ghost use Rattle.cabi.specs.Named.{startIf, ruleIf, levelIf};
 
 // The start that a number and a place name: 0 none, 1 the lowest crossed cube, any other number the cube at the place.
 fn start_if(from: u32, start: Place) -> Start
@@ -85,11 +86,22 @@ pub extern "C" fn malxuqeed_read(bytes: &[u8], vertices: &mut [i32], triangles: 
     sheetfile::read(bytes, vertices, triangles)
 }
 
+// The rule that a number names: 0 down, any other number nearest.
+fn rule_if(rule: u32) -> Rule
+    ensures { λ r. ⌜ r ≡ ruleIf rule ⌝ }
+{
+    if rule == 0 {
+        return Rule::Down;
+    }
+    Rule::Nearest
+}
+
 #[no_mangle]
 pub extern "C" fn malxuqeed_check(
     sizes: Sizes,
     from: u32,
     start: Place,
+    rule: u32,
     samples: &[i16],
     bytes: &[u8],
     words: &mut [u16],
@@ -99,10 +111,11 @@ pub extern "C" fn malxuqeed_check(
     ensures { λ r.
         let before = work (now (words .entry)) (now (waiting .entry)) (now (slots .entry)) in
         let after = work (now (words .exit)) (now (waiting .exit)) (now (slots .exit)) in
-        ⌜ Checks (lattice sizes (now (samples .entry))) (startIf from start) (now (bytes .entry)) before r after ⌝ }
+        ⌜ Checks (ruleIf rule) (lattice sizes (now (samples .entry))) (startIf from start) (now (bytes .entry)) before r after ⌝ }
 {
     let at = start_if(from, start);
-    checker::check(samples, sizes, at, bytes, words, waiting, slots)
+    let by = rule_if(rule);
+    checker::check(by, samples, sizes, at, bytes, words, waiting, slots)
 }
 
 #[no_mangle]

@@ -8,6 +8,7 @@ use lib.ListN.{length, drop}
 use borrow.Author.Tests.{eq-eqb, ne-eqb}
 use Rattle.lists.specs.Lists.{Beyond}
 use Rattle.paper.specs.declared.Sizes.{Sizes}
+use Rattle.paper.specs.declared.Rule.{Rule}
 use Rattle.paper.specs.Lattice.{Lattice, cubes}
 use Rattle.paper.specs.Tests.{verdict, judge}
 use Rattle.paper.specs.Room.{needed, neededSlots, Work}
@@ -23,33 +24,33 @@ use Rattle.checker.specs.Checked.{foundTests}
 
 -- ── tests 17 to 19 ──
 
-module _ (L : Lattice) (bs : List ℕ) (n : Counts) (w : Work) where
+module _ (rule : Rule) (L : Lattice) (bs : List ℕ) (n : Counts) (w : Work) where
   abbrev badRecord : ℕ
-  badRecord = firstBadRecord L (fileVertices bs) (w .slots) (fileV bs)
+  badRecord = firstBadRecord rule L (fileVertices bs) (w .slots) (fileV bs)
 
   abbrev badTriple : ℕ
   badTriple = firstBadTriple (L .size) (w .words) (fileVertices bs) (fileTriangles bs) (w .waiting) (fileT bs)
 
-  pub answer-17 : (i : ℕ) → i ≡ badRecord → (i ≡ fileV bs → ⊥) → verdict 17 i ≡ judge (foundTests L bs n w)
+  pub answer-17 : (i : ℕ) → i ≡ badRecord → (i ≡ fileV bs → ⊥) → verdict 17 i ≡ judge (foundTests rule L bs n w)
   unfolding foundTests
   answer-17 i e h = rw (ne-eqb badRecord (fileV bs) (λ q. h (e ∙ q))) (ap (verdict 17) e)
 
   module _ (passed : badRecord ≡ fileV bs) where
-    pub answer-18 : (j : ℕ) → j ≡ badTriple → (j ≡ fileT bs → ⊥) → verdict 18 j ≡ judge (foundTests L bs n w)
+    pub answer-18 : (j : ℕ) → j ≡ badTriple → (j ≡ fileT bs → ⊥) → verdict 18 j ≡ judge (foundTests rule L bs n w)
     unfolding foundTests
     answer-18 j e h = rw (eq-eqb badRecord (fileV bs) passed, ne-eqb badTriple (fileT bs) (λ q. h (e ∙ q))) (ap (verdict 18) e)
 
     module _ (passed′ : badTriple ≡ fileT bs) where
-      pub answer-19-vertices : (fileV bs ≡ n .vertices → ⊥) → verdict 19 0 ≡ judge (foundTests L bs n w)
+      pub answer-19-vertices : (fileV bs ≡ n .vertices → ⊥) → verdict 19 0 ≡ judge (foundTests rule L bs n w)
       unfolding foundTests
       answer-19-vertices h = rw (eq-eqb badRecord (fileV bs) passed, eq-eqb badTriple (fileT bs) passed′, ne-eqb (fileV bs) (n .vertices) h)
 
-      pub answer-19-triangles : (fileT bs ≡ n .triangles → ⊥) → verdict 19 0 ≡ judge (foundTests L bs n w)
+      pub answer-19-triangles : (fileT bs ≡ n .triangles → ⊥) → verdict 19 0 ≡ judge (foundTests rule L bs n w)
       unfolding foundTests
       answer-19-triangles h =
           rw (eq-eqb badRecord (fileV bs) passed, eq-eqb badTriple (fileT bs) passed′, ne-eqb (fileT bs) (n .triangles) h, and-false)
 
-      pub answer-0 : fileV bs ≡ n .vertices → fileT bs ≡ n .triangles → verdict 0 0 ≡ judge (foundTests L bs n w)
+      pub answer-0 : fileV bs ≡ n .vertices → fileT bs ≡ n .triangles → verdict 0 0 ≡ judge (foundTests rule L bs n w)
       unfolding foundTests
       answer-0 v t =
           rw (
@@ -61,11 +62,11 @@ module _ (L : Lattice) (bs : List ℕ) (n : Counts) (w : Work) where
 
 -- ── what is left past the front ──
 
-pub slots-beyond : (L : Lattice) (vs : List ℤ) (nv : ℕ) (slots after : List ℕ) (i : ℕ) → i ≡ firstBadRecord L vs slots nv
+pub slots-beyond : (rule : Rule) (L : Lattice) (vs : List ℤ) (nv : ℕ) (slots after : List ℕ) (i : ℕ) → i ≡ firstBadRecord rule L vs slots nv
     → after ≡ slotsAfter L vs slots i → Beyond (neededSlots (L .size)) slots after
-slots-beyond L vs nv slots after i e q = record {
+slots-beyond rule L vs nv slots after i e q = record {
   same-length = ap length q ∙ slots-length L vs slots i;
-  rest = ap (drop (neededSlots (L .size))) (q ∙ ap (slotsAfter L vs slots) e) ∙ slots-rest L vs slots nv;
+  rest = ap (drop (neededSlots (L .size))) (q ∙ ap (slotsAfter L vs slots) e) ∙ slots-rest rule L vs slots nv;
 }
 
 pub seen-beyond : (z : Sizes) (words : List ℕ) (vs : List ℤ) (ts : List ℕ) (nt : ℕ) (seen after : List ℕ) (j : ℕ)
@@ -76,6 +77,6 @@ seen-beyond z words vs ts nt seen after j e q = record {
 }
 
 -- the edges of the records before the first bad one are the lattice's
-pub all-named : (L : Lattice) (vs : List ℤ) (slots : List ℕ) (nv : ℕ) → firstBadRecord L vs slots nv ≡ nv → Named (neededSlots (L .size)) vs nv
+pub all-named : (rule : Rule) (L : Lattice) (vs : List ℤ) (slots : List ℕ) (nv : ℕ) → firstBadRecord rule L vs slots nv ≡ nv → Named (neededSlots (L .size)) vs nv
 unfolding edgeAt
-all-named L vs slots nv e = record { below = λ i h. edge-below L vs slots nv i (subst (λ (n : ℕ). i < n) (sym e) h) }
+all-named rule L vs slots nv e = record { below = λ i h. edge-below rule L vs slots nv i (subst (λ (n : ℕ). i < n) (sym e) h) }

@@ -12,6 +12,7 @@ use Rattle.lists.proofs.Member.{T→eq, eq→T, in-any, in-range}
 use Rattle.lists.proofs.Every.{any-with}
 use Rattle.lists.proofs.Runs.{any-first}
 use Rattle.paper.specs.declared.Sizes.{Sizes}
+use Rattle.paper.specs.declared.Rule.the-variants.{Down}
 use Rattle.paper.specs.Lattice.{Lattice, cubes, cubeNo, cubeAt, visited}
 use Rattle.paper.specs.Tables.{Tri, tri}
 use Rattle.paper.specs.Sheet.{cubeTriangles}
@@ -80,11 +81,12 @@ module _ (L : Lattice) (s : Sized (L .size)) (start : ℕ) (h : start < cubes (L
       go true e = tt
       go false e = n e
 
+  -- by either rule
   one-in : (k : ℕ) (t : Tri) → T (isIn (visited L start) k) → count (λ u. turned u t) (cubeTriangles L k) ≤ 1
   one-in k t v =
       omega (
         arith,
-        subst (λ (us : List Tri). count (λ u. turned u t) us ≤ 1) (parts L start .by-edge) (one-alike L s start h t),
+        subst (λ (us : List Tri). count (λ u. turned u t) us ≤ 1) (parts Down L start .by-edge) (one-alike Down L s start h t),
         count-each (λ u. turned u t) (cubeTriangles L) (visited L start),
         part-le (λ k. count (λ u. turned u t) (cubeTriangles L k)) (in-list k (visited L start) v),
       )

@@ -1,4 +1,5 @@
-// The checker: a sheet file against its samples and a start.
+// The checker: a sheet file against its samples and a start, under a rule of rounding.
+use paper::Rule;
 use paper::Sizes;
 use paper::Start;
 use paper::Verdict;
@@ -34,6 +35,7 @@ fn same_sizes(a: Sizes, b: Sizes) -> bool
 
 // Whether the file has the numbers of the sheet in the sheet's own order.
 fn in_order(
+    rule: Rule,
     samples: &[i16],
     sizes: Sizes,
     rows: &[u64],
@@ -46,10 +48,10 @@ fn in_order(
     requires { ⌜ (sizes .ny * sizes .nz ≤ length (now vis)) × (neededSlots sizes ≤ length (now slots)) ⌝ }
     ensures { λ r.
         let L = lattice sizes (now (samples .entry)) in
-        ⌜ (r ≡ true → Accepts L (now (rows .entry)) (now (vis .entry)) (now (bytes .entry)))
+        ⌜ (r ≡ true → Accepts rule L (now (rows .entry)) (now (vis .entry)) (now (bytes .entry)))
         × Beyond (neededSlots sizes) (now (slots .entry)) (now (slots .exit)) ⌝ }
 {
-    let same = ordered::same_vertices(samples, sizes, rows, vis, bytes, slots);
+    let same = ordered::same_vertices(rule, samples, sizes, rows, vis, bytes, slots);
     if !same {
         return false;
     }
@@ -61,6 +63,7 @@ fn in_order(
 
 // Tests 17 to 19 on numbered slots and an empty waiting list.
 fn compare(
+    rule: Rule,
     samples: &[i16],
     sizes: Sizes,
     bytes: &[u8],
@@ -77,11 +80,11 @@ fn compare(
         let words = wordsBy sizes (now (rows .entry)) (now (vis .entry)) in
         let before = work words (now (waiting .entry)) (now (slots .entry)) in
         let after = work words (now (waiting .exit)) (now (slots .exit)) in
-        ⌜ Compared (lattice sizes (now (samples .entry))) (now (bytes .entry)) counts before r after ⌝ }
+        ⌜ Compared rule (lattice sizes (now (samples .entry))) (now (bytes .entry)) counts before r after ⌝ }
 {
     let nv = layout::vertex_count(bytes);
     let nt = layout::triangle_count(bytes);
-    let i = records::first_bad(samples, sizes, bytes, slots);
+    let i = records::first_bad(rule, samples, sizes, bytes, slots);
     if i != nv {
         return Verdict {
             number: 17,
@@ -115,6 +118,7 @@ fn compare(
 
 // Tests 17 to 19, with the file's records and triangles in any order.
 fn in_any_order(
+    rule: Rule,
     samples: &[i16],
     sizes: Sizes,
     rows: &[u64],
@@ -128,7 +132,7 @@ fn in_any_order(
     requires { ⌜ (sizes .ny * sizes .nz ≤ length (now vis)) × (needed sizes ≤ length (now waiting)) × (neededSlots sizes ≤ length (now slots)) ⌝ }
     ensures { λ r.
         let L = lattice sizes (now (samples .entry)) in
-        ⌜ Answers L (now (rows .entry)) (now (vis .entry)) (now (bytes .entry)) r
+        ⌜ Answers rule L (now (rows .entry)) (now (vis .entry)) (now (bytes .entry)) r
         × Beyond (needed sizes) (now (waiting .entry)) (now (waiting .exit))
         × Beyond (neededSlots sizes) (now (slots .entry)) (now (slots .exit)) ⌝ }
 {
@@ -138,11 +142,22 @@ fn in_any_order(
     clear::clear_list(slots, 7 * m);
     dots::number_slots(samples, sizes, rows, vis, slots);
     let counts = tally::counts_of(rows, vis, sizes);
-    compare(samples, sizes, bytes, counts, rows, vis, waiting, slots)
+    compare(
+        rule,
+        samples,
+        sizes,
+        bytes,
+        counts,
+        rows,
+        vis,
+        waiting,
+        slots,
+    )
 }
 
 // Tests 17 to 19.
 fn last_tests(
+    rule: Rule,
     samples: &[i16],
     sizes: Sizes,
     rows: &[u64],
@@ -156,22 +171,23 @@ fn last_tests(
     requires { ⌜ (sizes .ny * sizes .nz ≤ length (now vis)) × (needed sizes ≤ length (now waiting)) × (neededSlots sizes ≤ length (now slots)) ⌝ }
     ensures { λ r.
         let L = lattice sizes (now (samples .entry)) in
-        ⌜ Answers L (now (rows .entry)) (now (vis .entry)) (now (bytes .entry)) r
+        ⌜ Answers rule L (now (rows .entry)) (now (vis .entry)) (now (bytes .entry)) r
         × Beyond (needed sizes) (now (waiting .entry)) (now (waiting .exit))
         × Beyond (neededSlots sizes) (now (slots .entry)) (now (slots .exit)) ⌝ }
 {
-    let same = in_order(samples, sizes, rows, vis, bytes, slots);
+    let same = in_order(rule, samples, sizes, rows, vis, bytes, slots);
     if same {
         return Verdict {
             number: 0,
             place: 0,
         };
     }
-    in_any_order(samples, sizes, rows, vis, bytes, waiting, slots)
+    in_any_order(rule, samples, sizes, rows, vis, bytes, waiting, slots)
 }
 
 // Tests 17 to 19 of the sheet from cube k, a crossed one, on work slices that are then cleared.
 fn check_from(
+    rule: Rule,
     samples: &[i16],
     sizes: Sizes,
     k: usize,
@@ -188,17 +204,18 @@ fn check_from(
     ensures { λ r.
         let before = work (now (words .entry)) (now (waiting .entry)) (now (slots .entry)) in
         let after = work (now (words .exit)) (now (waiting .exit)) (now (slots .exit)) in
-        ⌜ (r ≡ judge (lastTests (lattice sizes (now (samples .entry))) k (now (bytes .entry)))) × (after ≡ clean sizes before) ⌝ }
+        ⌜ (r ≡ judge (lastTests rule (lattice sizes (now (samples .entry))) k (now (bytes .entry)))) × (after ≡ clean sizes before) ⌝ }
 {
     let mut vis = [0u64; 4096];
     spread::visit(rows, may, sizes, k, &mut vis[..], waiting);
-    let v = last_tests(samples, sizes, rows, &vis[..], bytes, waiting, slots);
+    let v = last_tests(rule, samples, sizes, rows, &vis[..], bytes, waiting, slots);
     clear::clear_work(sizes, words, waiting, slots);
     v
 }
 
-// A sheet file against its samples and a start.
+// A sheet file, made under a rule, against its samples and a start.
 pub fn check(
+    rule: Rule,
     samples: &[i16],
     sizes: Sizes,
     start: Start,
@@ -210,7 +227,7 @@ pub fn check(
     ensures { λ r.
         let before = work (now (words .entry)) (now (waiting .entry)) (now (slots .entry)) in
         let after = work (now (words .exit)) (now (waiting .exit)) (now (slots .exit)) in
-        ⌜ Checks (lattice sizes (now (samples .entry))) start (now (bytes .entry)) before r after ⌝ }
+        ⌜ Checks rule (lattice sizes (now (samples .entry))) start (now (bytes .entry)) before r after ⌝ }
 {
     let mut rows = [0u64; 4096];
     let mut may = [0u64; 4096];
@@ -242,6 +259,7 @@ pub fn check(
         };
     }
     check_from(
+        rule,
         samples,
         sizes,
         ready.cube,

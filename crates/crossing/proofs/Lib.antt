@@ -1,3 +1,4 @@
 -- Laws of crossings and positions.
 pub mod Coordinates
 pub mod Records
+pub mod Rounding

@@ -6,6 +6,7 @@ use native.Mathlib.Omega.{arith}
 use lib.Dec.{T}
 use Rattle.paper.specs.declared.Sizes.{Sizes}
 use Rattle.paper.specs.declared.Place.{Place}
+use Rattle.paper.specs.declared.Rule.{Rule}
 use Rattle.paper.specs.Lattice.{Lattice, sampleNo, sampleAt, airAt, corner}
 use Rattle.paper.specs.Sheet.{edgeFrom, anchorOf, kindIn, endsOf, firstEnd, secondEnd, split, recordAt, vertexRecord}
 use Rattle.paper.specs.Within.{Sized, SampleIn}
@@ -55,13 +56,13 @@ module _ (L : Lattice) (p : Place) (k : ℕ) (i : SampleIn (L .size) p) (x : Cro
   anchor = ap (sampleAt (L .size)) seven ∙ sample-place (L .size) p (i .x) (i .y)
 
   -- which end is air decides the order
-  pub record-is : vertexRecord L edge ≡ cond (airAt L from) (recordAt L edge to from) (recordAt L edge from to)
+  pub record-is : (rule : Rule) → vertexRecord rule L edge ≡ cond (airAt L from) (recordAt rule L edge to from) (recordAt rule L edge from to)
   unfolding vertexRecord firstEnd secondEnd
-  record-is =
+  record-is rule =
       λ j.
       let u = corner (anchor j) (endsOf (kind-is j) .a) in
       let v = corner (anchor j) (endsOf (kind-is j) .b) in
-      cond (airAt L u) (recordAt L edge v u) (recordAt L edge u v)
+      cond (airAt L u) (recordAt rule L edge v u) (recordAt rule L edge u v)
 
   pub first-air : airAt L from ≡ true → airAt L to ≡ false
   unfolding split
@@ -71,8 +72,8 @@ module _ (L : Lattice) (p : Place) (k : ℕ) (i : SampleIn (L .size) p) (x : Cro
   unfolding split
   first-solid e = xor-false (airAt L to) (ap (λ (b : Bool). xor b (airAt L to)) (sym e) ∙ x .sides)
 
-  pub record-air : airAt L from ≡ true → vertexRecord L edge ≡ recordAt L edge to from
-  record-air e = record-is ∙ ap (λ (b : Bool). cond b (recordAt L edge to from) (recordAt L edge from to)) e
+  pub record-air : (rule : Rule) → airAt L from ≡ true → vertexRecord rule L edge ≡ recordAt rule L edge to from
+  record-air rule e = record-is rule ∙ ap (λ (b : Bool). cond b (recordAt rule L edge to from) (recordAt rule L edge from to)) e
 
-  pub record-solid : airAt L from ≡ false → vertexRecord L edge ≡ recordAt L edge from to
-  record-solid e = record-is ∙ ap (λ (b : Bool). cond b (recordAt L edge to from) (recordAt L edge from to)) e
+  pub record-solid : (rule : Rule) → airAt L from ≡ false → vertexRecord rule L edge ≡ recordAt rule L edge from to
+  record-solid rule e = record-is rule ∙ ap (λ (b : Bool). cond b (recordAt rule L edge to from) (recordAt rule L edge from to)) e

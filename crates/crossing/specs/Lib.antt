@@ -1,2 +1,3 @@
 -- What the contracts cite.
 pub mod Vertex
+pub mod Rounding

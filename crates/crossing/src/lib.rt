@@ -1,5 +1,6 @@
 // Crossings: t, positions, and the record of a vertex.
 use paper::Place;
+use paper::Rule;
 use paper::Sizes;
 ghost use mathlib.Core.Path.{_≡_};
 ghost use mathlib.Core.Bool.{true, false};
@@ -8,9 +9,10 @@ ghost use lib.IntN.{pos};
 ghost use lib.ListN.{length};
 ghost use lib.Seq.{sets};
 ghost use Rattle.paper.specs.Lattice.{lattice, air, sampleNo, valueAt, airAt, corner};
-ghost use Rattle.paper.specs.Sheet.{edgeFrom, endsOf, crossing, coordinate, recordAt, vertexRecord};
+ghost use Rattle.paper.specs.Sheet.{edgeFrom, endsOf, rounded, crossing, coordinate, recordAt, vertexRecord};
 ghost use Rattle.paper.specs.Within.{Full, SampleIn};
 ghost use Rattle.crossing.specs.Vertex.{numbers, Near, NearPlaces, Crosses};
+ghost use Rattle.crossing.specs.Rounding.{moreBy};
 
 // A vertex record.
 pub struct Vertex {
@@ -20,14 +22,34 @@ pub struct Vertex {
     pub z: i32,
 }
 
-// t, for the solid end's value p and the air end's value q.
-pub fn crossing_of(p: i16, q: i16) -> u32
+// What is added to n before it is divided by d, so that the quotient is rounded by a rule: nothing, or the most that is below half of d,
+// which leaves a tie where it is. Twice n, which would not fit, is not needed.
+fn more_by(rule: Rule, d: u32) -> u32
+    requires { ⌜ (0 < d) × (d ≤ 65536) ⌝ }
+    ensures { λ r. ⌜ (r ≡ moreBy rule d) × (r ≤ 32767) ⌝ }
+{
+    match rule {
+        Rule::Down => 0,
+        Rule::Nearest => (d - 1) / 2,
+    }
+}
+
+// n / d in whole units, by a rule.
+fn rounded_by(rule: Rule, n: u32, d: u32) -> u32
+    requires { ⌜ (n ≤ 2147483648) × (0 < d) × (d ≤ 65536) ⌝ }
+    ensures { λ r. ⌜ r ≡ rounded rule n d ⌝ }
+{
+    (n + more_by(rule, d)) / d
+}
+
+// t by a rule, for the solid end's value p and the air end's value q.
+pub fn crossing_of(rule: Rule, p: i16, q: i16) -> u32
     requires { ⌜ (air p ≡ false) × (air q ≡ true) ⌝ }
-    ensures { λ r. ⌜ (r ≡ crossing p q) × (r ≤ 65534) ⌝ }
+    ensures { λ r. ⌜ (r ≡ crossing rule p q) × (r ≤ 65534) ⌝ }
 {
     let n = -(p as i32);
     let d = (q as i32) - (p as i32);
-    65536 * (n as u32) / (d as u32)
+    rounded_by(rule, 65536 * (n as u32), d as u32)
 }
 
 // The coordinate, on one axis, of a crossing that stands t units from the solid end towards the air end.
@@ -48,15 +70,15 @@ pub fn value(samples: &[i16], sizes: Sizes, p: Place) -> i16
     samples[lattice::sample_no(sizes, p)]
 }
 
-// The record of edge e, with the solid end at s and the air end at a.
-fn record_of(samples: &[i16], sizes: Sizes, e: usize, s: Place, a: Place) -> Vertex
+// The record of edge e by a rule, with the solid end at s and the air end at a.
+fn record_of(rule: Rule, samples: &[i16], sizes: Sizes, e: usize, s: Place, a: Place) -> Vertex
     requires { ⌜ Full (lattice sizes (now samples)) × SampleIn sizes s × SampleIn sizes a × NearPlaces s a × (e < 2147483648) ⌝ }
     requires { ⌜ (airAt (lattice sizes (now samples)) s ≡ false) × (airAt (lattice sizes (now samples)) a ≡ true) ⌝ }
-    ensures { λ r. ⌜ numbers r ≡ recordAt (lattice sizes (now (samples .entry))) e s a ⌝ }
+    ensures { λ r. ⌜ numbers r ≡ recordAt rule (lattice sizes (now (samples .entry))) e s a ⌝ }
 {
     let p = value(samples, sizes, s);
     let q = value(samples, sizes, a);
-    let t = crossing_of(p, q);
+    let t = crossing_of(rule, p, q);
     Vertex {
         edge: e as i32,
         x: position(s.x, a.x, t),
@@ -98,19 +120,19 @@ pub fn corner_of(p: Place, c: usize) -> Place
     }
 }
 
-// The record of the vertex on the edge of a kind at the anchor p.
-pub fn vertex_on(samples: &[i16], sizes: Sizes, p: Place, kind: usize) -> Vertex
+// The record, by a rule, of the vertex on the edge of a kind at the anchor p.
+pub fn vertex_on(rule: Rule, samples: &[i16], sizes: Sizes, p: Place, kind: usize) -> Vertex
     requires { ⌜ Full (lattice sizes (now samples)) × SampleIn sizes p × Crosses (lattice sizes (now samples)) p kind ⌝ }
-    ensures { λ r. ⌜ numbers r ≡ vertexRecord (lattice sizes (now (samples .entry))) (7 * sampleNo sizes p + kind) ⌝ }
+    ensures { λ r. ⌜ numbers r ≡ vertexRecord rule (lattice sizes (now (samples .entry))) (7 * sampleNo sizes p + kind) ⌝ }
 {
     let e = 7 * lattice::sample_no(sizes, p) + kind;
     let u = corner_of(p, first_end(kind));
     let v = corner_of(p, second_end(kind));
     let first = value(samples, sizes, u);
     if sides::is_air(first) {
-        return record_of(samples, sizes, e, v, u);
+        return record_of(rule, samples, sizes, e, v, u);
     }
-    record_of(samples, sizes, e, u, v)
+    record_of(rule, samples, sizes, e, u, v)
 }
 
 // A record at place k of a vertex slice.

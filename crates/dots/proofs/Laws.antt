@@ -12,6 +12,7 @@ use Rattle.lists.specs.Lists.{range, each, isIn}
 use Rattle.lists.proofs.Member.{any-each, in-any, in-range}
 use Rattle.lists.proofs.Runs.{each-more, each-prefix}
 use Rattle.lists.proofs.Stores.{each-behind}
+use Rattle.paper.specs.declared.Rule.{Rule}
 use Rattle.paper.specs.Lattice.{Lattice}
 use Rattle.paper.specs.Sheet.{vertexRecord}
 use Rattle.paper.proofs.Listing.{record-length}
@@ -32,64 +33,64 @@ numbered-length at (x ∷ es) l = numbered-length (at + 1) es (set l x at) ∙ l
 
 -- ── vertices and slots ──
 
-module _ (L : Lattice) (first at : ℕ) (d : Drawn) where
-  pub draws-none : Draws L [] first at d at d
+module _ (rule : Rule) (L : Lattice) (first at : ℕ) (d : Drawn) where
+  pub draws-none : Draws rule L [] first at d at d
   draws-none = record { vertices = refl; slots = refl; next-is = omega arith }
 
   -- some behind others
-  pub draws-more : (a b : List ℕ) (n m : ℕ) (e f : Drawn) → first ≤ at → Draws L a first at d n e → Draws L b first n e m f
-      → Draws L (a ++ b) first at d m f
+  pub draws-more : (a b : List ℕ) (n m : ℕ) (e f : Drawn) → first ≤ at → Draws rule L a first at d n e → Draws rule L b first n e m f
+      → Draws rule L (a ++ b) first at d m f
   draws-more a b n m e f h A B = record {
     vertices =
         let q : n - first ≡ at - first + length a = omega (arith, A .next-is) in
         B .vertices
-        ∙ ((λ i. sets (A .vertices i) (4 * q i) (each (vertexRecord L) b))
-        ∙ each-behind (vertexRecord L) 4 (record-length L) (at - first) (d .vertices) a b);
+        ∙ ((λ i. sets (A .vertices i) (4 * q i) (each (vertexRecord rule L) b))
+        ∙ each-behind (vertexRecord rule L) 4 (record-length rule L) (at - first) (d .vertices) a b);
     slots = B .slots ∙ ((λ i. numbered (A .next-is i) b (A .slots i)) ∙ numbered-join at a b (d .slots));
     next-is = omega (arith, A .next-is, B .next-is, length-append a b);
   }
 
-  pub draws-long : (es : List ℕ) (n : ℕ) (e : Drawn) → Draws L es first at d n e
+  pub draws-long : (es : List ℕ) (n : ℕ) (e : Drawn) → Draws rule L es first at d n e
       → (length (e .vertices) ≡ length (d .vertices)) × (length (e .slots) ≡ length (d .slots))
   draws-long es n e A = (
-    ap length (A .vertices) ∙ length-sets (d .vertices) (4 * (at - first)) (each (vertexRecord L) es),
+    ap length (A .vertices) ∙ length-sets (d .vertices) (4 * (at - first)) (each (vertexRecord rule L) es),
     ap length (A .slots)
         ∙ numbered-length at es (d .slots),
   )
 
 -- one vertex
-pub draws-one : (L : Lattice) (first at e : ℕ) (d : Drawn) (v : List ℤ) → v ≡ vertexRecord L e
-    → Draws L (e ∷ []) first at d (at + 1) (drawn (sets (d .vertices) (4 * (at - first)) v) (set (d .slots) e at))
-draws-one L first at e d v q = record {
-  vertices = ap (sets (d .vertices) (4 * (at - first))) (q ∙ sym (append-nil (vertexRecord L e)));
+pub draws-one : (rule : Rule) (L : Lattice) (first at e : ℕ) (d : Drawn) (v : List ℤ) → v ≡ vertexRecord rule L e
+    → Draws rule L (e ∷ []) first at d (at + 1) (drawn (sets (d .vertices) (4 * (at - first)) v) (set (d .slots) e at))
+draws-one rule L first at e d v q = record {
+  vertices = ap (sets (d .vertices) (4 * (at - first))) (q ∙ sym (append-nil (vertexRecord rule L e)));
   slots = refl;
   next-is = omega arith;
 }
 
 -- the same edges by another name
-pub draws-same : (L : Lattice) (first at : ℕ) (d : Drawn) (n : ℕ) (e : Drawn) (a b : List ℕ) → a ≡ b → Draws L a first at d n e
-    → Draws L b first at d n e
-draws-same L first at d n e a b q A = subst (λ (es : List ℕ). Draws L es first at d n e) q A
+pub draws-same : (rule : Rule) (L : Lattice) (first at : ℕ) (d : Drawn) (n : ℕ) (e : Drawn) (a b : List ℕ) → a ≡ b → Draws rule L a first at d n e
+    → Draws rule L b first at d n e
+draws-same rule L first at d n e a b q A = subst (λ (es : List ℕ). Draws rule L es first at d n e) q A
 
 -- none, where nothing is to be drawn
-pub draws-empty : (L : Lattice) (first at : ℕ) (d : Drawn) (es : List ℕ) → [] ≡ es → Draws L es first at d at d
-draws-empty L first at d es e = subst (λ (es : List ℕ). Draws L es first at d at d) e (draws-none L first at d)
+pub draws-empty : (rule : Rule) (L : Lattice) (first at : ℕ) (d : Drawn) (es : List ℕ) → [] ≡ es → Draws rule L es first at d at d
+draws-empty rule L first at d es e = subst (λ (es : List ℕ). Draws rule L es first at d at d) e (draws-none rule L first at d)
 
 -- ── a run of things with edges ──
 
 -- n of m things are drawn
-pub record Drawing (L : Lattice) (f : ℕ → List ℕ) (m first at n next : ℕ) (before after : Drawn) : Type 0 where
+pub record Drawing (rule : Rule) (L : Lattice) (f : ℕ → List ℕ) (m first at n next : ℕ) (before after : Drawn) : Type 0 where
   pub upto : n ≤ m
-  pub draws : Draws L (each f (range 0 n)) first at before next after
+  pub draws : Draws rule L (each f (range 0 n)) first at before next after
 
-module _ (L : Lattice) (f : ℕ → List ℕ) (m first at : ℕ) where
-  pub drawing-none : (d : Drawn) → Drawing L f m first at 0 at d d
-  drawing-none d = record { upto = omega arith; draws = draws-none L first at d }
+module _ (rule : Rule) (L : Lattice) (f : ℕ → List ℕ) (m first at : ℕ) where
+  pub drawing-none : (d : Drawn) → Drawing rule L f m first at 0 at d d
+  drawing-none d = record { upto = omega arith; draws = draws-none rule L first at d }
 
-  module _ (n next : ℕ) (d e : Drawn) (D : Drawing L f m first at n next d e) where
+  module _ (n next : ℕ) (d e : Drawn) (D : Drawing rule L f m first at n next d e) where
     -- the slices are as long as before
     pub drawing-long : (length (e .vertices) ≡ length (d .vertices)) × (length (e .slots) ≡ length (d .slots))
-    drawing-long = draws-long L first at d (each f (range 0 n)) next e (D .draws)
+    drawing-long = draws-long rule L first at d (each f (range 0 n)) next e (D .draws)
 
     -- there is room for the next
     pub drawing-room : (needed : ℕ) → Roomy (each f (range 0 m)) first at needed (length (d .vertices)) (length (d .slots)) → n < m
@@ -108,19 +109,19 @@ module _ (L : Lattice) (f : ℕ → List ℕ) (m first at : ℕ) where
         }
 
     -- one more
-    pub drawing-more : (k : ℕ) (g : Drawn) → first ≤ at → n < m → Draws L (f n) first next e k g → Drawing L f m first at (n + 1) k d g
+    pub drawing-more : (k : ℕ) (g : Drawn) → first ≤ at → n < m → Draws rule L (f n) first next e k g → Drawing rule L f m first at (n + 1) k d g
     drawing-more k g s h A = record {
       upto = omega arith;
       draws =
-          subst (λ (es : List ℕ). Draws L es first at d k g) (sym (each-more f n))
-          (draws-more L first at d (each f (range 0 n)) (f n) next k e g s (D .draws) A);
+          subst (λ (es : List ℕ). Draws rule L es first at d k g) (sym (each-more f n))
+          (draws-more rule L first at d (each f (range 0 n)) (f n) next k e g s (D .draws) A);
     }
 
     -- all
-    pub drawing-all : (n < m → ⊥) → Draws L (each f (range 0 m)) first at d next e
+    pub drawing-all : (n < m → ⊥) → Draws rule L (each f (range 0 m)) first at d next e
     drawing-all h =
         let q : n ≡ m = omega (arith, D .upto) in
-        subst (λ (k : ℕ). Draws L (each f (range 0 k)) first at d next e) q (D .draws)
+        subst (λ (k : ℕ). Draws rule L (each f (range 0 k)) first at d next e) q (D .draws)
 
 -- n of m things are numbered
 pub record Numbering (f : ℕ → List ℕ) (m at n next : ℕ) (before after : List ℕ) : Type 0 where
@@ -163,9 +164,9 @@ module _ (f : ℕ → List ℕ) (m at : ℕ) (l : List ℕ) where
         subst (λ (i : ℕ). Numbers (each f (range 0 i)) at l next k) q (N .numbers)
 
 -- what is drawn is numbered
-pub draws-numbers : (L : Lattice) (es : List ℕ) (first at : ℕ) (d : Drawn) (n : ℕ) (e : Drawn) → Draws L es first at d n e
+pub draws-numbers : (rule : Rule) (L : Lattice) (es : List ℕ) (first at : ℕ) (d : Drawn) (n : ℕ) (e : Drawn) → Draws rule L es first at d n e
     → Numbers es at (d .slots) n (e .slots)
-draws-numbers L es first at d n e A = record { slots = A .slots; next-is = A .next-is }
+draws-numbers rule L es first at d n e A = record { slots = A .slots; next-is = A .next-is }
 
 -- each of a run changes sides, where all do
 pub crossed-part : (L : Lattice) (f : ℕ → List ℕ) (m n : ℕ) → n < m → Crossed L (each f (range 0 m)) → Crossed L (f n)
@@ -187,11 +188,11 @@ unfolding edgeAt
 kind-off ks base kind e = sym (ap (λ (b : Bool). cond b ((base + kind) ∷ []) []) e)
 
 -- the vertex of a kind
-pub draws-kind : (L : Lattice) (first at ks base kind : ℕ) (d : Drawn) (v vs : List ℤ) → vs ≡ sets (d .vertices) (4 * (at - first)) v
-    → v ≡ vertexRecord L (base + kind) → bit ks kind ≡ true
-    → Draws L (edgeAt ks base kind) first at d (at + 1) (drawn vs (set (d .slots) (base + kind) at))
-draws-kind L first at ks base kind d v vs e q t =
-    subst (λ (w : List ℤ). Draws L (edgeAt ks base kind) first at d (at + 1) (drawn w (set (d .slots) (base + kind) at))) (sym e)
+pub draws-kind : (rule : Rule) (L : Lattice) (first at ks base kind : ℕ) (d : Drawn) (v vs : List ℤ) → vs ≡ sets (d .vertices) (4 * (at - first)) v
+    → v ≡ vertexRecord rule L (base + kind) → bit ks kind ≡ true
+    → Draws rule L (edgeAt ks base kind) first at d (at + 1) (drawn vs (set (d .slots) (base + kind) at))
+draws-kind rule L first at ks base kind d v vs e q t =
+    subst (λ (w : List ℤ). Draws rule L (edgeAt ks base kind) first at d (at + 1) (drawn w (set (d .slots) (base + kind) at))) (sym e)
     (subst
-    (λ (es : List ℕ). Draws L es first at d (at + 1) (drawn (sets (d .vertices) (4 * (at - first)) v) (set (d .slots) (base + kind) at)))
-    (kind-on ks base kind t) (draws-one L first at (base + kind) d v q))
+    (λ (es : List ℕ). Draws rule L es first at d (at + 1) (drawn (sets (d .vertices) (4 * (at - first)) v) (set (d .slots) (base + kind) at)))
+    (kind-on ks base kind t) (draws-one rule L first at (base + kind) d v q))

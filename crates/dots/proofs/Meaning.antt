@@ -13,12 +13,13 @@ use Rattle.lists.proofs.Every.{All, all-in, all-weak}
 use Rattle.lists.proofs.Rising.{Rising}
 use Rattle.lists.proofs.Runs.{range-join, keep-append, each-more}
 use Rattle.paper.specs.declared.Place.{Place}
+use Rattle.paper.specs.declared.Rule.{Rule}
 use Rattle.paper.specs.Lattice.{Lattice, samples, sampleNo, airAt, cubes, visited}
-use Rattle.paper.specs.Sheet.{Sheet, tetrahedra, anchorOf, kindIn, firstEnd, secondEnd, split, cubeEdges, vertexEdges, vertexRecord, sheetOf, vertexWords}
+use Rattle.paper.specs.Sheet.{tetrahedra, anchorOf, kindIn, firstEnd, secondEnd, split, cubeEdges, vertexEdges, vertexRecord, sheetOf, vertexWords}
 use Rattle.paper.specs.Room.{neededSlots}
 use Rattle.paper.specs.Within.{Sized, SampleIn}
 use Rattle.paper.proofs.Edges.{Joined, cube-edges-join}
-use Rattle.paper.proofs.Listing.{parts, edges-rising, sheet-edges, sheet-edges-lt, visits-lt, vertex-words}
+use Rattle.paper.proofs.Listing.{parts, tetrahedra-sound, edges-exactly, edges-rising, edges-lt, sheet-edges-lt, visits-lt, vertex-words}
 use Rattle.crossing.specs.Vertex.{Crosses}
 use Rattle.bits.specs.Words.{bit, word}
 use Rattle.bits.proofs.Bits.{bit-word}
@@ -114,10 +115,13 @@ module _ (L : Lattice) (s : Sized (L .size)) (start : ℕ) (rows vis : List ℕ)
       layer-kept z hz ∙ ap (λ (b : ℕ). keep marked (range b (7 * nx * ny))) e)
       ∙ ap (λ (n : ℕ). keep marked (range 0 n)) e
 
-  -- they are the sheet's
-  pub edges-by : edgesBy (L .size) rows vis ≡ sheetOf L start .edges
+  -- they are those of the visited cubes, and so the sheet's
+  edges-listed : edgesBy (L .size) rows vis ≡ vertexEdges tetrahedra L (visited L start)
   unfolding vertexEdges
-  edges-by = all-kept ∙ sym (parts L start .edges)
+  edges-listed = all-kept
+
+  pub edges-by : (rule : Rule) → edgesBy (L .size) rows vis ≡ sheetOf rule L start .edges
+  edges-by rule = edges-listed ∙ sym (parts rule L start .edges)
 
   -- ── each changes sides ──
 
@@ -135,7 +139,9 @@ module _ (L : Lattice) (s : Sized (L .size)) (start : ℕ) (rows vis : List ℕ)
   edges-crossed = record {
     at = λ e t.
         let vs = visited L start in
-        let u : T (marked e) = subst T (ap (λ (es : List ℕ). isIn es e) edges-by ∙ sheet-edges L s start e) t in
+        let u : T (marked e) =
+        subst T (ap (λ (es : List ℕ). isIn es e) edges-listed
+        ∙ edges-exactly tetrahedra L tetrahedra-sound s (visited L start) (visits-lt L start) e) t in
         let a = any-in (λ c. isIn (cubeEdges L c) e) vs (subst T (any-each (eqb e) (cubeEdges L) vs) u) in
         let c = a .0 in
         let hc = all-in (λ k. k < cubes (L .size)) vs (visits-lt L start) c (a .1 .0) in
@@ -145,34 +151,33 @@ module _ (L : Lattice) (s : Sized (L .size)) (start : ℕ) (rows vis : List ℕ)
 
   -- ── what is drawn of them ──
 
-  abbrev S : Sheet
-  S = sheetOf L start
-
   -- their records are the sheet's vertices
-  pub records-are : each (vertexRecord L) (edgesBy (L .size) rows vis) ≡ vertexWords S
-  records-are = ap (each (vertexRecord L)) edges-by ∙ sym (vertex-words L start)
+  pub records-are : (rule : Rule) → each (vertexRecord rule L) (edgesBy (L .size) rows vis) ≡ vertexWords (sheetOf rule L start)
+  records-are rule = ap (each (vertexRecord rule L)) (edges-by rule) ∙ sym (vertex-words rule L start)
 
-  rising : Rising 0 (S .edges)
-  rising = subst (Rising 0) (sym (parts L start .edges)) (edges-rising tetrahedra L (visited L start))
+  rising : (rule : Rule) → Rising 0 (sheetOf rule L start .edges)
+  rising rule = subst (Rising 0) (sym (parts rule L start .edges)) (edges-rising tetrahedra L (visited L start))
 
   -- the slots of their edges, numbered from 0, have their ranks
-  pub slots-rank : (slots : List ℕ) → neededSlots (L .size) ≤ length slots → (e : ℕ) → T (isIn (S .edges) e)
-      → getD (numbered 0 (edgesBy (L .size) rows vis) slots) e 0 ≡ rank (S .edges) e
-  slots-rank slots h e t =
-      ap (λ (es : List ℕ). getD (numbered 0 es slots) e 0) edges-by
-      ∙ (numbered-at 0 0 (S .edges) slots e rising
-      (all-weak (λ e. e < neededSlots (L .size)) (λ e. e < length slots) (λ e l. omega arith) (S .edges) (sheet-edges-lt L start)) t
-      ∙ zero-add (rank (S .edges) e))
+  pub slots-rank : (rule : Rule) (slots : List ℕ) → neededSlots (L .size) ≤ length slots → (e : ℕ) → T (isIn (sheetOf rule L start .edges) e)
+      → getD (numbered 0 (edgesBy (L .size) rows vis) slots) e 0 ≡ rank (sheetOf rule L start .edges) e
+  slots-rank rule slots h e t =
+      let es = sheetOf rule L start .edges in
+      ap (λ (es : List ℕ). getD (numbered 0 es slots) e 0) (edges-by rule)
+      ∙ (numbered-at 0 0 es slots e (rising rule)
+      (all-weak (λ e. e < neededSlots (L .size)) (λ e. e < length slots) (λ e l. omega arith) es (sheet-edges-lt rule L start)) t
+      ∙ zero-add (rank es e))
 
   -- cleared and then numbered from 1 on, they have one more
-  pub slots-used : (slots : List ℕ) → neededSlots (L .size) ≤ length slots
-      → numbered 1 (edgesBy (L .size) rows vis) (cleared (neededSlots (L .size)) slots) ≡ over (slotsOf (L .size) (S .edges)) slots
-  slots-used slots h =
-      ap (λ (es : List ℕ). numbered 1 es (cleared (neededSlots (L .size)) slots)) edges-by
-      ∙ numbered-slots (L .size) (S .edges) slots rising (sheet-edges-lt L start) h
+  pub slots-used : (rule : Rule) (slots : List ℕ) → neededSlots (L .size) ≤ length slots
+      → numbered 1 (edgesBy (L .size) rows vis) (cleared (neededSlots (L .size)) slots)
+      ≡ over (slotsOf (L .size) (sheetOf rule L start .edges)) slots
+  slots-used rule slots h =
+      ap (λ (es : List ℕ). numbered 1 es (cleared (neededSlots (L .size)) slots)) (edges-by rule)
+      ∙ numbered-slots (L .size) (sheetOf rule L start .edges) slots (rising rule) (sheet-edges-lt rule L start) h
 
   -- past the needed ones nothing changes
   pub slots-beyond : (at : ℕ) (slots : List ℕ) → Beyond (neededSlots (L .size)) slots (numbered at (edgesBy (L .size) rows vis) slots)
   slots-beyond at slots =
       numbered-beyond (neededSlots (L .size)) at (edgesBy (L .size) rows vis) slots
-      (subst (All (λ e. e < neededSlots (L .size))) (sym edges-by) (sheet-edges-lt L start))
+      (subst (All (λ e. e < neededSlots (L .size))) (sym edges-listed) (edges-lt tetrahedra L (visited L start)))

@@ -12,6 +12,7 @@ use lib.Seq.{sets}
 use Rattle.lists.specs.Lists.{range, each, isIn}
 use Rattle.paper.specs.declared.Sizes.{Sizes}
 use Rattle.paper.specs.declared.Place.{Place}
+use Rattle.paper.specs.declared.Rule.{Rule}
 use Rattle.paper.specs.Lattice.{Lattice}
 use Rattle.paper.specs.Sheet.{anchorOf, kindIn, vertexRecord}
 use Rattle.crossing.specs.Vertex.{Crosses}
@@ -64,9 +65,9 @@ pub record Drawn : Type 0 where
 abbrev pub drawn : List ℤ → List ℕ → Drawn
 drawn v s = record { vertices = v; slots = s }
 
--- the vertices of the edges es are written from number `at` on, number n at place n - first, and next is the next number
-pub record Draws (L : Lattice) (es : List ℕ) (first at : ℕ) (before : Drawn) (next : ℕ) (after : Drawn) : Type 0 where
-  pub vertices : after .vertices ≡ sets (before .vertices) (4 * (at - first)) (each (vertexRecord L) es)
+-- the vertices of the edges es, by a rule, are written from number `at` on, number n at place n - first, and next is the next number
+pub record Draws (rule : Rule) (L : Lattice) (es : List ℕ) (first at : ℕ) (before : Drawn) (next : ℕ) (after : Drawn) : Type 0 where
+  pub vertices : after .vertices ≡ sets (before .vertices) (4 * (at - first)) (each (vertexRecord rule L) es)
   pub slots : after .slots ≡ numbered at es (before .slots)
   pub next-is : next ≡ at + length es
 

@@ -1,6 +1,7 @@
 // The vertices of anchors, written by words of kinds and numbered in the slots of their edges.
 use kinds::KindWords;
 use paper::Place;
+use paper::Rule;
 use paper::Sizes;
 ghost use mathlib.Core.Path.{_≡_};
 ghost use Prim.Native.Nat.{_+_, _*_, _≤_, _<_};
@@ -14,6 +15,7 @@ ghost use Rattle.dots.specs.Dots.{numbered, drawn, Draws, Numbers, Cross
 // The vertex on the edge of a kind at the anchor p, where ks has it, gets the number `at` and the place at - first; the next number is
 // returned.
 fn put_kind(
+    rule: Rule,
     samples: &[i16],
     sizes: Sizes,
     p: Place,
@@ -31,10 +33,10 @@ fn put_kind(
     ensures { λ r.
         let before = drawn (now (vertices .entry)) (now (slots .entry)) in
         let after = drawn (now (vertices .exit)) (now (slots .exit)) in
-        ⌜ Draws (lattice sizes (now (samples .entry))) (edgeAt ks base kind) first at before r after ⌝ }
+        ⌜ Draws rule (lattice sizes (now (samples .entry))) (edgeAt ks base kind) first at before r after ⌝ }
 {
     if bits::has_bit(ks, kind) {
-        let v = crossing::vertex_on(samples, sizes, p, kind);
+        let v = crossing::vertex_on(rule, samples, sizes, p, kind);
         crossing::put_vertex(vertices, at - first, v);
         slots[base + kind] = at as u32;
         return at + 1;
@@ -44,6 +46,7 @@ fn put_kind(
 
 // The vertices of an anchor.
 pub fn put_anchor(
+    rule: Rule,
     samples: &[i16],
     sizes: Sizes,
     p: Place,
@@ -60,12 +63,13 @@ pub fn put_anchor(
     ensures { λ r.
         let before = drawn (now (vertices .entry)) (now (slots .entry)) in
         let after = drawn (now (vertices .exit)) (now (slots .exit)) in
-        ⌜ Draws (lattice sizes (now (samples .entry))) (edgesAt ks base 7) first at before r after ⌝ }
+        ⌜ Draws rule (lattice sizes (now (samples .entry))) (edgesAt ks base 7) first at before r after ⌝ }
 {
     let mut next = at;
     let mut kind = 0;
     while kind < 7 {
         next = put_kind(
+            rule,
             samples,
             sizes,
             p,
@@ -91,6 +95,7 @@ fn any_kind(k: KindWords) -> u64
 
 // The vertices of the anchor p of a row: `any` has the anchors of the row that have one, `row` is the number of its first edge.
 fn put_place(
+    rule: Rule,
     samples: &[i16],
     sizes: Sizes,
     k: KindWords,
@@ -109,12 +114,13 @@ fn put_place(
     ensures { λ r.
         let before = drawn (now (vertices .entry)) (now (slots .entry)) in
         let after = drawn (now (vertices .exit)) (now (slots .exit)) in
-        ⌜ Draws (lattice sizes (now (samples .entry))) (anchorEdges k row (p .x)) first at before r after ⌝ }
+        ⌜ Draws rule (lattice sizes (now (samples .entry))) (anchorEdges k row (p .x)) first at before r after ⌝ }
 {
     let x = p.x;
     if bits::has_bit(any, x) {
         let ks = kinds::kinds_at(k, x);
         return put_anchor(
+            rule,
             samples,
             sizes,
             p,
@@ -131,6 +137,7 @@ fn put_place(
 
 // The vertices of the row of anchors at y and z, which has the edges k.
 pub fn put_row(
+    rule: Rule,
     samples: &[i16],
     sizes: Sizes,
     k: KindWords,
@@ -149,7 +156,7 @@ pub fn put_row(
         let before = drawn (now (vertices .entry)) (now (slots .entry)) in
         let after = drawn (now (vertices .exit)) (now (slots .exit)) in
         let es = rowEdges k (7 * (sizes .nx * (y + sizes .ny * z))) (sizes .nx) in
-        ⌜ Draws (lattice sizes (now (samples .entry))) es first at before r after ⌝ }
+        ⌜ Draws rule (lattice sizes (now (samples .entry))) es first at before r after ⌝ }
 {
     let any = any_kind(k);
     let n = sizes.nx;
@@ -158,6 +165,7 @@ pub fn put_row(
     let mut x = 0;
     while x < n {
         next = put_place(
+            rule,
             samples,
             sizes,
             k,
@@ -176,6 +184,7 @@ pub fn put_row(
 
 // The vertices of the row of anchors at y and z, by rows of sides and of cubes.
 pub fn put_row_at(
+    rule: Rule,
     samples: &[i16],
     sizes: Sizes,
     rows: &[u64],
@@ -196,7 +205,7 @@ pub fn put_row_at(
         let es = edgesOf sizes (now (rows .entry)) (now (vis .entry)) y z in
         let before = drawn (now (vertices .entry)) (now (slots .entry)) in
         let after = drawn (now (vertices .exit)) (now (slots .exit)) in
-        ⌜ Draws (lattice sizes (now (samples .entry))) es first at before r after ⌝ }
+        ⌜ Draws rule (lattice sizes (now (samples .entry))) es first at before r after ⌝ }
 {
     let v = kinds::cubes_around(vis, sizes, y, z);
     if rows::either(v) == 0 {
@@ -204,11 +213,12 @@ pub fn put_row_at(
     }
     let f = kinds::sides_around(rows, sizes, y, z);
     let k = kinds::kinds(f, v);
-    put_row(samples, sizes, k, y, z, slots, vertices, first, at)
+    put_row(rule, samples, sizes, k, y, z, slots, vertices, first, at)
 }
 
 // The vertices of the layer of anchors at z.
 fn put_layer(
+    rule: Rule,
     samples: &[i16],
     sizes: Sizes,
     rows: &[u64],
@@ -228,13 +238,14 @@ fn put_layer(
         let es = layerEdges sizes (now (rows .entry)) (now (vis .entry)) z in
         let before = drawn (now (vertices .entry)) (now (slots .entry)) in
         let after = drawn (now (vertices .exit)) (now (slots .exit)) in
-        ⌜ Draws (lattice sizes (now (samples .entry))) es first at before r after ⌝ }
+        ⌜ Draws rule (lattice sizes (now (samples .entry))) es first at before r after ⌝ }
 {
     let n = sizes.ny;
     let mut next = at;
     let mut y = 0;
     while y < n {
         next = put_row_at(
+            rule,
             samples,
             sizes,
             rows,
@@ -253,6 +264,7 @@ fn put_layer(
 
 // All vertices, numbered from 0; how many there are is returned.
 pub fn put_vertices(
+    rule: Rule,
     samples: &[i16],
     sizes: Sizes,
     rows: &[u64],
@@ -268,19 +280,20 @@ pub fn put_vertices(
         let es = edgesBy sizes (now (rows .entry)) (now (vis .entry)) in
         let before = drawn (now (vertices .entry)) (now (slots .entry)) in
         let after = drawn (now (vertices .exit)) (now (slots .exit)) in
-        ⌜ Draws (lattice sizes (now (samples .entry))) es 0 0 before r after ⌝ }
+        ⌜ Draws rule (lattice sizes (now (samples .entry))) es 0 0 before r after ⌝ }
 {
     let n = sizes.nz;
     let mut next = 0;
     let mut z = 0;
     while z < n {
-        next = put_layer(samples, sizes, rows, vis, z, slots, vertices, 0, next);
+        next = put_layer(rule, samples, sizes, rows, vis, z, slots, vertices, 0, next);
         z += 1;
     }
     next
 }
 
-// The slots of the layer of anchors at z are numbered from `at` on; the next number is returned. Each row is written to the buffer.
+// The slots of the layer of anchors at z are numbered from `at` on; the next number is returned. Each row is written to the buffer, by
+// either rule: nothing reads it.
 fn number_layer(
     samples: &[i16],
     sizes: Sizes,
@@ -303,7 +316,19 @@ fn number_layer(
     let mut next = at;
     let mut y = 0;
     while y < n {
-        next = put_row_at(samples, sizes, rows, vis, y, z, slots, buffer, next, next);
+        next = put_row_at(
+            Rule::Down,
+            samples,
+            sizes,
+            rows,
+            vis,
+            y,
+            z,
+            slots,
+            buffer,
+            next,
+            next,
+        );
         y += 1;
     }
     next

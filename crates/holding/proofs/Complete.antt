@@ -12,6 +12,7 @@ use Rattle.lists.proofs.Member.{and-both}
 use Rattle.lists.proofs.Closure.{length-range}
 use Rattle.lists.proofs.Within.{any-member, below}
 use Rattle.lists.proofs.Counts.{count-some, count-each, count-le-sum, count-unique, few-along, matched}
+use Rattle.paper.specs.declared.Rule.{Rule}
 use Rattle.paper.specs.Lattice.{Lattice, cubes}
 use Rattle.paper.specs.Tables.{Tri}
 use Rattle.paper.specs.Sheet.{vertexRecord, sheetOf}
@@ -24,14 +25,14 @@ use Rattle.pairing.specs.Pairing.{arrow, around, isArrow, times}
 use Rattle.pairing.proofs.Sheets.{few-by-edge}
 use Rattle.pairing.proofs.Turned.{is-turned, turned-is, back, along, hit, hit-turned}
 
-module _ (L : Lattice) (start : ℕ) (vs : List ℤ) (nv : ℕ) (good : (i : ℕ) → i < nv → Recorded (vertexRecord L) (sheetOf L start) vs i) where
+module _ (rule : Rule) (L : Lattice) (start : ℕ) (vs : List ℤ) (nv : ℕ) (good : (i : ℕ) → i < nv → Recorded (vertexRecord rule L) (sheetOf rule L start) vs i) where
   abbrev edges : List ℕ
-  edges = sheetOf L start .edges
+  edges = sheetOf rule L start .edges
 
   one-edge : (i : ℕ) → In i (range 0 nv) → count (λ e. sameNumber (edgeOf vs i) (pos e)) edges ≡ 1
   one-edge i m =
       let r = good i (below nv i m) in
-      ap (λ (x : ℤ). count (λ e. sameNumber x (pos e)) edges) (record-edge L vs i (r .edge) (r .is)) ∙ count-unique (edges-unique L start) (r .vertex)
+      ap (λ (x : ℤ). count (λ e. sameNumber x (pos e)) edges) (record-edge rule L vs i (r .edge) (r .is)) ∙ count-unique (edges-unique rule L start) (r .vertex)
 
   one-record : (e : ℕ) → In e edges → count (λ i. sameNumber (edgeOf vs i) (pos e)) (range 0 nv) ≤ 1
   one-record e m =
@@ -51,9 +52,9 @@ own-hit t =
     count-some (isArrow (t .a) (t .b)) {l = arrow (t .a) (t .b) ∷ arrow (t .b) (t .c) ∷ arrow (t .c) (t .a) ∷ []} (here refl)
     (and-both (eqb (t .a) (t .a)) (eqb (t .b) (t .b)) (eqb-refl (t .a)) (eqb-refl (t .b)))
 
-module _ (L : Lattice) (s : Sized (L .size)) (start : ℕ) (h : start < cubes (L .size)) where
+module _ (rule : Rule) (L : Lattice) (s : Sized (L .size)) (start : ℕ) (h : start < cubes (L .size)) where
   abbrev us : List Tri
-  us = sheetOf L start .byEdge
+  us = sheetOf rule L start .byEdge
 
   -- the sheet's triangles are not turned into one another: each directed edge occurs once
   pub one-alike : (t : Tri) → count (λ u. turned u t) us ≤ 1
@@ -65,13 +66,13 @@ module _ (L : Lattice) (s : Sized (L .size)) (start : ℕ) (h : start < cubes (L
         arith,
         count-le-sum (λ u. turned u t) (hit a b) us (λ u q. omega (arith, own-hit t, hit-turned a b (is-turned u t q))),
         count-each (isArrow a b) around us,
-        few-by-edge L s start h a b,
+        few-by-edge L s start h rule a b,
       )
 
-module _ (L : Lattice) (s : Sized (L .size)) (start : ℕ) (h : start < cubes (L .size)) (vs : List ℤ) (ts : List ℕ) (nt : ℕ)
-    (good : (i : ℕ) → i < nt → Listed (sheetOf L start) vs ts i) where
+module _ (rule : Rule) (L : Lattice) (s : Sized (L .size)) (start : ℕ) (h : start < cubes (L .size)) (vs : List ℤ) (ts : List ℕ) (nt : ℕ)
+    (good : (i : ℕ) → i < nt → Listed (sheetOf rule L start) vs ts i) where
   abbrev us′ : List Tri
-  us′ = sheetOf L start .byEdge
+  us′ = sheetOf rule L start .byEdge
 
   abbrev tri-at : ℕ → Tri
   tri-at = triangleOf vs ts
@@ -80,7 +81,7 @@ module _ (L : Lattice) (s : Sized (L .size)) (start : ℕ) (h : start < cubes (L
   one-triangle i m =
       let w = any-member (turned (tri-at i)) us′ (good i (below nt i m) .is) in
       let c = count-some (λ u. turned u (tri-at i)) (w .1) (turned-is (back (is-turned (tri-at i) (w .0) (w .2)))) in
-      omega (arith, one-alike L s start h (tri-at i))
+      omega (arith, one-alike rule L s start h (tri-at i))
 
   one-naming : (u : Tri) → In u us′ → count (λ i. turned u (tri-at i)) (range 0 nt) ≤ 1
   one-naming u m =
@@ -92,7 +93,7 @@ module _ (L : Lattice) (s : Sized (L .size)) (start : ℕ) (h : start < cubes (L
       ap (λ (n : ℕ). eqb n (length us′)) (sym (length-range 0 nt))
       ∙ matched (λ i u. turned u (tri-at i)) (range 0 nt) us′ one-triangle one-naming
 
-  pub complete-is : (nv : ℕ) → ((i : ℕ) → i < nv → Recorded (vertexRecord L) (sheetOf L start) vs i)
-      → (eqb nv (length (sheetOf L start .edges)) && eqb nt (length us′)) ≡ complete (sheetOf L start) vs ts nv nt
+  pub complete-is : (nv : ℕ) → ((i : ℕ) → i < nv → Recorded (vertexRecord rule L) (sheetOf rule L start) vs i)
+      → (eqb nv (length (sheetOf rule L start .edges)) && eqb nt (length us′)) ≡ complete (sheetOf rule L start) vs ts nv nt
   unfolding complete
-  complete-is nv g = λ i. vertices-full L start vs nv g i && triangles-full i
+  complete-is nv g = λ i. vertices-full rule L start vs nv g i && triangles-full i

@@ -13,6 +13,7 @@ use Rattle.lists.proofs.Within.{same3, of-same3, member-any, any-member, below,
 use Rattle.lists.proofs.Counts.{count-map, count-same, few}
 use Rattle.lists.proofs.Closure.{bool-same}
 use Rattle.paper.specs.declared.Sizes.{Sizes}
+use Rattle.paper.specs.declared.Rule.{Rule}
 use Rattle.paper.specs.Lattice.{Lattice, cubes}
 use Rattle.paper.specs.Tables.{Tri}
 use Rattle.paper.specs.Sheet.{sheetOf, vertexRecord}
@@ -39,25 +40,25 @@ sizes-same y z e = T→eq _ (of-same3 (ap (λ (k : Sizes). k .nx) e) (ap (λ (k 
 
 -- ── records ──
 
-module _ (L : Lattice) (start : ℕ) (vs : List ℤ) (nv : ℕ) where
+module _ (rule : Rule) (L : Lattice) (start : ℕ) (vs : List ℤ) (nv : ℕ) where
   abbrev edges : List ℕ
-  edges = sheetOf L start .edges
+  edges = sheetOf rule L start .edges
 
   abbrev records : List (List ℤ)
-  records = sheetOf L start .records
+  records = sheetOf rule L start .records
 
   -- a record of the sheet is that of a vertex
-  of-vertex : (r : List ℤ) → In r records → (e : ℕ) × In e edges × (r ≡ vertexRecord L e)
-  of-vertex r i = map-in (vertexRecord L) edges r (subst (In r) (parts L start .records) i)
+  of-vertex : (r : List ℤ) → In r records → (e : ℕ) × In e edges × (r ≡ vertexRecord rule L e)
+  of-vertex r i = map-in (vertexRecord rule L) edges r (subst (In r) (parts rule L start .records) i)
 
-  vertex-in : (e : ℕ) → In e edges → In (vertexRecord L e) records
-  vertex-in e i = subst (In (vertexRecord L e)) (sym (parts L start .records)) (in-map (vertexRecord L) i)
+  vertex-in : (e : ℕ) → In e edges → In (vertexRecord rule L e) records
+  vertex-in e i = subst (In (vertexRecord rule L e)) (sym (parts rule L start .records)) (in-map (vertexRecord rule L) i)
 
   pub thin : (r : List ℤ) → count (sameNumbers r) records ≤ 1
   thin r =
-      subst (λ (n : ℕ). n ≤ 1) (sym (ap (count (sameNumbers r)) (parts L start .records) ∙ count-map (sameNumbers r) (vertexRecord L) edges))
-      (few (λ e. sameNumbers r (vertexRecord L e)) (edges-unique L start)
-      (λ a b i j x y. one-edge L a b (sym (same-numbers r (vertexRecord L a) x) ∙ same-numbers r (vertexRecord L b) y)))
+      subst (λ (n : ℕ). n ≤ 1) (sym (ap (count (sameNumbers r)) (parts rule L start .records) ∙ count-map (sameNumbers r) (vertexRecord rule L) edges))
+      (few (λ e. sameNumbers r (vertexRecord rule L e)) (edges-unique rule L start)
+      (λ a b i j x y. one-edge rule L a b (sym (same-numbers r (vertexRecord rule L a) x) ∙ same-numbers r (vertexRecord rule L b) y)))
 
   abbrev pub Match : Type 0
   Match =
@@ -66,26 +67,26 @@ module _ (L : Lattice) (start : ℕ) (vs : List ℤ) (nv : ℕ) where
 
   -- tests 17 and 19 of the records
   pub record Passes : Type 0 where
-    pub good : (i : ℕ) → i < nv → Recorded (vertexRecord L) (sheetOf L start) vs i
+    pub good : (i : ℕ) → i < nv → Recorded (vertexRecord rule L) (sheetOf rule L start) vs i
     pub full : (e : ℕ) → In e edges → (i : ℕ) × (i < nv) × (edgeOf vs i ≡ pos e)
 
   pub passes-match : Passes → Match
   passes-match p = record {
     sound = λ i h.
         let r = p .good i h in
-        member-any (sameNumbers (recordOf vs i)) (vertex-in (r .edge) (r .vertex)) (numbers-same (recordOf vs i) (vertexRecord L (r .edge)) (r .is));
+        member-any (sameNumbers (recordOf vs i)) (vertex-in (r .edge) (r .vertex)) (numbers-same (recordOf vs i) (vertexRecord rule L (r .edge)) (r .is));
     full = λ r m.
         let w = of-vertex r m in
         let v = p .full (w .0) (w .1) in
         let g = p .good (v .0) (v .1) in
         member-any (λ i. sameNumbers r (recordOf vs i)) (in-run nv (v .0) (v .1))
-        (numbers-same r (recordOf vs (v .0)) (w .2 ∙ sym (record-named L vs (v .0) (g .edge) (w .0) (g .is) (v .2))));
+        (numbers-same r (recordOf vs (v .0)) (w .2 ∙ sym (record-named rule L vs (v .0) (g .edge) (w .0) (g .is) (v .2))));
     apart = λ i j h l t. p .good i h .new j l (sym (edges-same vs i j (same-numbers (recordOf vs i) (recordOf vs j) t)));
   }
 
   module _ (m : Match) where
     -- a record is that of a vertex of the sheet
-    vertex-of : (i : ℕ) → i < nv → (e : ℕ) × In e edges × (recordOf vs i ≡ vertexRecord L e)
+    vertex-of : (i : ℕ) → i < nv → (e : ℕ) × In e edges × (recordOf vs i ≡ vertexRecord rule L e)
     vertex-of i h =
         let w = any-member (sameNumbers (recordOf vs i)) records (m .sound i h) in
         let v = of-vertex (w .0) (w .1) in
@@ -101,12 +102,12 @@ module _ (L : Lattice) (start : ℕ) (vs : List ℤ) (nv : ℕ) where
             is = v .2;
             new = λ j l q.
                 let u = vertex-of j (omega arith) in
-                let r = record-named L vs j (u .0) (v .0) (u .2) (q ∙ record-edge L vs i (v .0) (v .2)) in
+                let r = record-named rule L vs j (u .0) (v .0) (u .2) (q ∙ record-edge rule L vs i (v .0) (v .2)) in
                 m .apart i j h l (numbers-same (recordOf vs i) (recordOf vs j) (v .2 ∙ sym r));
           };
       full = λ e i.
-          let v = any-member (λ k. sameNumbers (vertexRecord L e) (recordOf vs k)) (range 0 nv) (m .full (vertexRecord L e) (vertex-in e i)) in
-          (v .0, below nv (v .0) (v .1), record-edge L vs (v .0) e (sym (same-numbers (vertexRecord L e) (recordOf vs (v .0)) (v .2))));
+          let v = any-member (λ k. sameNumbers (vertexRecord rule L e) (recordOf vs k)) (range 0 nv) (m .full (vertexRecord rule L e) (vertex-in e i)) in
+          (v .0, below nv (v .0) (v .1), record-edge rule L vs (v .0) e (sym (same-numbers (vertexRecord rule L e) (recordOf vs (v .0)) (v .2))));
     }
 
 -- ── triangles ──
@@ -114,9 +115,9 @@ module _ (L : Lattice) (start : ℕ) (vs : List ℤ) (nv : ℕ) where
 pub turned-back : (t u : Tri) → T (turned t u) → T (turned u t)
 turned-back t u h = turned-is (back (is-turned t u h))
 
-module _ (L : Lattice) (s : Sized (L .size)) (start : ℕ) (h : start < cubes (L .size)) (vs : List ℤ) (ts : List ℕ) (nt : ℕ) where
+module _ (rule : Rule) (L : Lattice) (s : Sized (L .size)) (start : ℕ) (h : start < cubes (L .size)) (vs : List ℤ) (ts : List ℕ) (nt : ℕ) where
   abbrev us : List Tri
-  us = sheetOf L start .byEdge
+  us = sheetOf rule L start .byEdge
 
   abbrev tri-at : ℕ → Tri
   tri-at = triangleOf vs ts
@@ -125,7 +126,7 @@ module _ (L : Lattice) (s : Sized (L .size)) (start : ℕ) (h : start < cubes (L
   thin-us t =
       subst (λ (n : ℕ). n ≤ 1)
       (count-same (λ u. turned u t) (turned t) us (λ u i. bool-same (turned u t) (turned t u) (turned-back u t) (turned-back t u)))
-      (one-alike L s start h t)
+      (one-alike rule L s start h t)
 
   abbrev pub MatchTri : Type 0
   MatchTri =
@@ -133,7 +134,7 @@ module _ (L : Lattice) (s : Sized (L .size)) (start : ℕ) (h : start < cubes (L
 
   -- tests 18 and 19 of the triangles
   pub record PassesTri : Type 0 where
-    pub good : (i : ℕ) → i < nt → Listed (sheetOf L start) vs ts i
+    pub good : (i : ℕ) → i < nt → Listed (sheetOf rule L start) vs ts i
     pub full : (t : Tri) → In t us → (i : ℕ) × (i < nt) × T (turned t (tri-at i))
 
   pub passes-tri : PassesTri → MatchTri

@@ -11,6 +11,7 @@ use Rattle.lists.specs.Lists.{range, each}
 use Rattle.lists.proofs.Every.{all-at, map-same-in}
 use Rattle.lists.proofs.Runs.{along-list}
 use Rattle.lists.proofs.Within.{members, below}
+use Rattle.paper.specs.declared.Rule.{Rule}
 use Rattle.paper.specs.Lattice.{Lattice}
 use Rattle.paper.specs.Tables.{tri}
 use Rattle.paper.specs.Sheet.{Sheet, sheetOf, vertexRecord, vertexWords, triangleWords}
@@ -29,23 +30,23 @@ run-is g f l d h =
     ∙ (sym (map-map f (λ i. getD l i d) (range 0 (length l))) ∙ ap (map f) (along-list l d))
 
 -- the four numbers of record i of records one behind the other
-record-at : (L : Lattice) (es : List ℕ) (i : ℕ) → i < length es → recordOf (each (vertexRecord L) es) i ≡ vertexRecord L (getD es i 0)
+record-at : (rule : Rule) (L : Lattice) (es : List ℕ) (i : ℕ) → i < length es → recordOf (each (vertexRecord rule L) es) i ≡ vertexRecord rule L (getD es i 0)
 unfolding recordOf
-record-at L [] i h = absurd (omega arith)
-record-at L (e ∷ es) zero h =
-    let r = vertexRecord L e in
-    ap (λ (n : ℕ). take n (r ++ each (vertexRecord L) es)) (sym (record-length L e)) ∙ take-append-seam r (each (vertexRecord L) es)
-record-at L (e ∷ es) (suc i) h =
-    let r = vertexRecord L e in
-    let q : 4 * suc i ≡ length r + 4 * i = omega (arith, record-length L e) in
-    ap (take 4) (ap (λ (n : ℕ). drop n (r ++ each (vertexRecord L) es)) q ∙ drop-append-add r (each (vertexRecord L) es) (4 * i))
-    ∙ record-at L es i (omega arith)
+record-at rule L [] i h = absurd (omega arith)
+record-at rule L (e ∷ es) zero h =
+    let r = vertexRecord rule L e in
+    ap (λ (n : ℕ). take n (r ++ each (vertexRecord rule L) es)) (sym (record-length rule L e)) ∙ take-append-seam r (each (vertexRecord rule L) es)
+record-at rule L (e ∷ es) (suc i) h =
+    let r = vertexRecord rule L e in
+    let q : 4 * suc i ≡ length r + 4 * i = omega (arith, record-length rule L e) in
+    ap (take 4) (ap (λ (n : ℕ). drop n (r ++ each (vertexRecord rule L) es)) q ∙ drop-append-add r (each (vertexRecord rule L) es) (4 * i))
+    ∙ record-at rule L es i (omega arith)
 
 -- ── the words of a sheet ──
 
-module _ (L : Lattice) (s : Sized (L .size)) (start : ℕ) where
+module _ (rule : Rule) (L : Lattice) (s : Sized (L .size)) (start : ℕ) where
   abbrev S : Sheet
-  S = sheetOf L start
+  S = sheetOf rule L start
 
   abbrev nv : ℕ
   nv = length (S .edges)
@@ -59,14 +60,14 @@ module _ (L : Lattice) (s : Sized (L .size)) (start : ℕ) where
   abbrev tw : List ℕ
   tw = triangleWords S
 
-  record-of : (i : ℕ) → i < nv → recordOf vw i ≡ vertexRecord L (getD (S .edges) i 0)
-  record-of i h = ap (λ (l : List ℤ). recordOf l i) (vertex-words L start) ∙ record-at L (S .edges) i h
+  record-of : (i : ℕ) → i < nv → recordOf vw i ≡ vertexRecord rule L (getD (S .edges) i 0)
+  record-of i h = ap (λ (l : List ℤ). recordOf l i) (vertex-words rule L start) ∙ record-at rule L (S .edges) i h
 
   pub records-are : map (recordOf vw) (range 0 nv) ≡ S .records
-  records-are = run-is (recordOf vw) (vertexRecord L) (S .edges) 0 record-of ∙ sym (parts L start .records)
+  records-are = run-is (recordOf vw) (vertexRecord rule L) (S .edges) 0 record-of ∙ sym (parts rule L start .records)
 
   edge-at : (k : ℕ) → k < nv → natAbs (edgeOf vw k) ≡ getD (S .edges) k 0
-  edge-at k h = ap natAbs (record-edge L vw k (getD (S .edges) k 0) (record-of k h))
+  edge-at k h = ap natAbs (record-edge rule L vw k (getD (S .edges) k 0) (record-of k h))
 
   pub triangles-are : map (triangleOf vw tw) (range 0 nt) ≡ S .byEdge
   unfolding triangleOf cornerOf triangleWords named
@@ -75,9 +76,9 @@ module _ (L : Lattice) (s : Sized (L .size)) (start : ℕ) where
       (λ i h.
       let t = getD (S .triangles) i (tri 0 0 0) in
       let w = three (S .triangles) i h in
-      let b = all-at (Below nv) (S .triangles) (tri 0 0 0) (indices-below L s start) i h in
+      let b = all-at (Below nv) (S .triangles) (tri 0 0 0) (indices-below rule L s start) i h in
       let x = ap (λ (n : ℕ). natAbs (edgeOf vw n)) (w .a) ∙ edge-at (t .a) (b .a) in
       let y = ap (λ (n : ℕ). natAbs (edgeOf vw n)) (w .b) ∙ edge-at (t .b) (b .b) in
       let z = ap (λ (n : ℕ). natAbs (edgeOf vw n)) (w .c) ∙ edge-at (t .c) (b .c) in
       λ j. tri (x j) (y j) (z j))
-      ∙ indices-name L s start
+      ∙ indices-name rule L s start

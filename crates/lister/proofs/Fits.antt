@@ -13,9 +13,9 @@ use Rattle.paper.specs.declared.Start.{Start}
 use Rattle.paper.specs.declared.Start.the-variants.{Lowest}
 use Rattle.paper.specs.declared.Built.{Built}
 use Rattle.paper.specs.Lattice.{Lattice}
-use Rattle.paper.specs.Sheet.{Sheet, sheetOf, vertexWords, triangleWords}
+use Rattle.paper.specs.Sheet.{Sheet, vertexWords, triangleWords}
 use Rattle.paper.specs.Room.{vertexRoom, triangleRoom, outputAfter}
-use Rattle.paper.specs.Build.{Lent, startOf, buildNumber, uncounted, built, lentAfter}
+use Rattle.paper.specs.Build.{Lent, startOf, buildRule, sheetFrom, buildNumber, uncounted, built, lentAfter}
 use Rattle.paper.proofs.Listing.{vertex-words-length, triangle-words-length}
 use Rattle.paper.proofs.Passing.{built-number, built-zero, built-fits}
 use Rattle.lister.specs.Listing.{listedLattice, listingNumber, vertexNumbers, triangleNumbers, listingRoom, ownRoom, listed, listedAfter, Lists}
@@ -58,7 +58,7 @@ output-length n new old h = go (eqb n 0) refl
 
 module _ (L : Lattice) (s : Start) (l : Lent) where
   abbrev S : Sheet
-  S = sheetOf L (startOf L s)
+  S = sheetFrom L s
 
   fits-in : buildNumber L s l ≡ 0 → (length (S .edges) ≤ vertexRoom (l .vertices)) × (length (S .triangles) ≤ triangleRoom (l .triangles))
   fits-in e = built-fits L s l (built-number L s l ∙ e)
@@ -66,7 +66,7 @@ module _ (L : Lattice) (s : Start) (l : Lent) where
   left-vertices : length (lentAfter L s l .vertices) ≡ length (l .vertices)
   unfolding lentAfter
   left-vertices =
-      output-length (buildNumber L s l) (vertexWords S) (l .vertices) (λ e. omega (arith, fits-in e .0, vertex-words-length L (startOf L s)))
+      output-length (buildNumber L s l) (vertexWords S) (l .vertices) (λ e. omega (arith, fits-in e .0, vertex-words-length buildRule L (startOf L s)))
 
   left-triangles : length (lentAfter L s l .triangles) ≡ length (l .triangles)
   unfolding lentAfter

@@ -13,6 +13,7 @@ use Rattle.lists.proofs.Member.{range-in}
 use Rattle.lists.proofs.Runs.{each-append, each-more}
 use Rattle.lists.proofs.Stores.{beyond-refl, beyond-trans}
 use Rattle.paper.specs.declared.Sizes.{Sizes}
+use Rattle.paper.specs.declared.Rule.{Rule}
 use Rattle.paper.specs.Lattice.{Lattice, place}
 use Rattle.paper.specs.Sheet.{vertexRecord}
 use Rattle.paper.specs.Room.{neededSlots}
@@ -61,17 +62,17 @@ row-below n rows vis y z hy hz =
 
 -- ── one row behind the other ──
 
-module _ (L : Lattice) (fs : List ℤ) (nv : ℕ) where
+module _ (rule : Rule) (L : Lattice) (fs : List ℤ) (nv : ℕ) where
   -- none
-  pub listing-none : (at : ℕ) (l : List ℕ) → Listing L [] fs nv at l at l
+  pub listing-none : (at : ℕ) (l : List ℕ) → Listing rule L [] fs nv at l at l
   listing-none at l = record {
     listed = λ h. record { follows = follows-none fs (4 * at); numbers = record { slots = refl; next-is = omega arith } };
     beyond = beyond-refl (neededSlots (L .size)) l;
   }
 
   -- some behind others that the file has
-  pub listing-join : (at m n : ℕ) (a b k l j : List ℕ) → m ≤ nv → Listing L a fs nv at k m l → Listing L b fs nv m l n j
-      → Listing L (a ++ b) fs nv at k n j
+  pub listing-join : (at m n : ℕ) (a b k l j : List ℕ) → m ≤ nv → Listing rule L a fs nv at k m l → Listing rule L b fs nv m l n j
+      → Listing rule L (a ++ b) fs nv at k n j
   listing-join at m n a b k l j h A B =
       let p = A .listed h in
       record {
@@ -79,8 +80,8 @@ module _ (L : Lattice) (fs : List ℤ) (nv : ℕ) where
             let q = B .listed g in
             record {
               follows =
-                  subst (λ (ts : List ℤ). Follows fs (4 * at) ts (4 * n)) (sym (each-append (vertexRecord L) a b))
-                  (follows-join fs (4 * at) (4 * m) (4 * n) (each (vertexRecord L) a) (each (vertexRecord L) b) (p .follows) (q .follows));
+                  subst (λ (ts : List ℤ). Follows fs (4 * at) ts (4 * n)) (sym (each-append (vertexRecord rule L) a b))
+                  (follows-join fs (4 * at) (4 * m) (4 * n) (each (vertexRecord rule L) a) (each (vertexRecord rule L) b) (p .follows) (q .follows));
               numbers = record {
                 slots =
                     q .numbers .slots
@@ -93,75 +94,75 @@ module _ (L : Lattice) (fs : List ℤ) (nv : ℕ) where
 
 -- ── one row, drawn to the front of a slice ──
 
-module _ (L : Lattice) (fs : List ℤ) (nv : ℕ) (es : List ℕ) (below : All (λ e. e < neededSlots (L .size)) es) (at : ℕ)
-    (d : Drawn) (next : ℕ) (e : Drawn) (D : Draws L es at at d next e) where
+module _ (rule : Rule) (L : Lattice) (fs : List ℤ) (nv : ℕ) (es : List ℕ) (below : All (λ e. e < neededSlots (L .size)) es) (at : ℕ)
+    (d : Drawn) (next : ℕ) (e : Drawn) (D : Draws rule L es at at d next e) where
   drawn-beyond : Beyond (neededSlots (L .size)) (d .slots) (e .slots)
   drawn-beyond =
       subst (Beyond (neededSlots (L .size)) (d .slots)) (sym (D .slots)) (numbered-beyond (neededSlots (L .size)) at es (d .slots) below)
 
   -- the file differs
-  pub listing-differs : (r : ℕ) → nv < r → Listing L es fs nv at (d .slots) r (e .slots)
+  pub listing-differs : (r : ℕ) → nv < r → Listing rule L es fs nv at (d .slots) r (e .slots)
   listing-differs r h = record { listed = λ g. absurd (omega arith); beyond = drawn-beyond }
 
   -- the file has the front of the slice
   pub listing-same : length es ≤ 448 → 1792 ≤ length (d .vertices) → (n : ℕ) → n ≡ 4 * (next - at)
-      → take n (drop (4 * at) fs) ≡ take n (e .vertices) → Listing L es fs nv at (d .slots) next (e .slots)
+      → take n (drop (4 * at) fs) ≡ take n (e .vertices) → Listing rule L es fs nv at (d .slots) next (e .slots)
   listing-same few room n m t =
-      let ts = each (vertexRecord L) es in
-      let long = each-length (vertexRecord L) 4 (record-length L) es in
+      let ts = each (vertexRecord rule L) es in
+      let long = each-length (vertexRecord rule L) 4 (record-length rule L) es in
       let zero : 4 * (at - at) ≡ 0 = omega arith in
       let q : n ≡ length ts = omega (arith, D .next-is) in
       let front : e .vertices ≡ sets (d .vertices) 0 ts = D .vertices ∙ ap (λ (k : ℕ). sets (d .vertices) k ts) zero in
       let w = follows-front fs (4 * at) n ts (d .vertices) (e .vertices) front q (omega arith) t in
       let r : 4 * at + n ≡ 4 * next = omega (arith, D .next-is) in
       record {
-        listed = λ g. record { follows = subst (Follows fs (4 * at) ts) r w; numbers = draws-numbers L es at at d next e D };
+        listed = λ g. record { follows = subst (Follows fs (4 * at) ts) r w; numbers = draws-numbers rule L es at at d next e D };
         beyond = drawn-beyond;
       }
 
 -- ── runs of rows ──
 
 -- the file has k of m
-pub record Going (L : Lattice) (f : ℕ → List ℕ) (fs : List ℤ) (nv at m k next : ℕ) (before after : List ℕ) : Type 0 where
+pub record Going (rule : Rule) (L : Lattice) (f : ℕ → List ℕ) (fs : List ℤ) (nv at m k next : ℕ) (before after : List ℕ) : Type 0 where
   pub upto : k ≤ m
   pub within : next ≤ nv
-  pub listing : Listing L (each f (range 0 k)) fs nv at before next after
+  pub listing : Listing rule L (each f (range 0 k)) fs nv at before next after
 
-module _ (L : Lattice) (f : ℕ → List ℕ) (fs : List ℤ) (nv at m : ℕ) (l : List ℕ) where
-  pub going-none : at ≤ nv → Going L f fs nv at m 0 at l l
-  going-none h = record { upto = omega arith; within = h; listing = listing-none L fs nv at l }
+module _ (rule : Rule) (L : Lattice) (f : ℕ → List ℕ) (fs : List ℤ) (nv at m : ℕ) (l : List ℕ) where
+  pub going-none : at ≤ nv → Going rule L f fs nv at m 0 at l l
+  going-none h = record { upto = omega arith; within = h; listing = listing-none rule L fs nv at l }
 
-  module _ (k next : ℕ) (j : List ℕ) (g : Going L f fs nv at m k next l j) where
+  module _ (k next : ℕ) (j : List ℕ) (g : Going rule L f fs nv at m k next l j) where
     pub going-long : length j ≡ length l
     going-long = g .listing .beyond .same-length
 
     -- one more
-    pub going-more : (next′ : ℕ) (i : List ℕ) → k < m → next′ ≤ nv → Listing L (f k) fs nv next j next′ i
-        → Going L f fs nv at m (k + 1) next′ l i
+    pub going-more : (next′ : ℕ) (i : List ℕ) → k < m → next′ ≤ nv → Listing rule L (f k) fs nv next j next′ i
+        → Going rule L f fs nv at m (k + 1) next′ l i
     going-more next′ i h w B = record {
       upto = omega arith;
       within = w;
       listing =
-          subst (λ (es : List ℕ). Listing L es fs nv at l next′ i) (sym (each-more f k))
-          (listing-join L fs nv at next next′ (each f (range 0 k)) (f k) l j i (g .within) (g .listing) B);
+          subst (λ (es : List ℕ). Listing rule L es fs nv at l next′ i) (sym (each-more f k))
+          (listing-join rule L fs nv at next next′ (each f (range 0 k)) (f k) l j i (g .within) (g .listing) B);
     }
 
     -- the file differs in one more
-    pub going-differs : (next′ : ℕ) (i : List ℕ) → nv < next′ → Listing L (f k) fs nv next j next′ i → (es : List ℕ)
-        → Listing L es fs nv at l next′ i
+    pub going-differs : (next′ : ℕ) (i : List ℕ) → nv < next′ → Listing rule L (f k) fs nv next j next′ i → (es : List ℕ)
+        → Listing rule L es fs nv at l next′ i
     going-differs next′ i h B es = record { listed = λ w. absurd (omega arith); beyond = beyond-trans (g .listing .beyond) (B .beyond) }
 
-    pub going-all : m ≤ k → Listing L (each f (range 0 m)) fs nv at l next j
+    pub going-all : m ≤ k → Listing rule L (each f (range 0 m)) fs nv at l next j
     going-all h =
         let q : k ≡ m = omega (arith, g .upto) in
-        subst (λ (k : ℕ). Listing L (each f (range 0 k)) fs nv at l next j) q (g .listing)
+        subst (λ (k : ℕ). Listing rule L (each f (range 0 k)) fs nv at l next j) q (g .listing)
 
 -- all that the file has
-pub listing-all : (L : Lattice) (es : List ℕ) (fs : List ℤ) (nv next : ℕ) (l j : List ℕ) → Listing L es fs nv 0 l next j
-    → length fs ≡ 4 * nv → next ≡ nv → (fs ≡ each (vertexRecord L) es) × (j ≡ numbered 0 es l)
-listing-all L es fs nv next l j A h e =
+pub listing-all : (rule : Rule) (L : Lattice) (es : List ℕ) (fs : List ℤ) (nv next : ℕ) (l j : List ℕ) → Listing rule L es fs nv 0 l next j
+    → length fs ≡ 4 * nv → next ≡ nv → (fs ≡ each (vertexRecord rule L) es) × (j ≡ numbered 0 es l)
+listing-all rule L es fs nv next l j A h e =
     let w = A .listed (omega arith) in
-    let ts = each (vertexRecord L) es in
+    let ts = each (vertexRecord rule L) es in
     let z : 4 * 0 ≡ 0 = omega arith in
     let q : 4 * next ≡ length fs = omega arith in
     (follows-all fs ts (4 * next) (subst (λ (k : ℕ). Follows fs k ts (4 * next)) z (w .follows)) q, w .numbers .slots)

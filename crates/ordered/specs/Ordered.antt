@@ -5,6 +5,7 @@ use Prim.Native.Nat.{ℕ, _+_, _*_, _≤_}
 use lib.IntN.{ℤ}
 use lib.ListN.{length, take, drop}
 use Rattle.lists.specs.Lists.{each, Beyond}
+use Rattle.paper.specs.declared.Rule.{Rule}
 use Rattle.paper.specs.Lattice.{Lattice}
 use Rattle.paper.specs.Room.{neededSlots}
 use Rattle.paper.specs.Sheet.{vertexRecord}
@@ -15,12 +16,12 @@ pub record Follows {A : Type 0} (fs : List A) (at : ℕ) (ts : List A) (next : �
   pub is : take (length ts) (drop at fs) ≡ ts
   pub next-is : next ≡ at + length ts
 
--- the vertices of the edges es stand in a file's numbers from vertex `at` on, and the slots of es are numbered from there
-pub record Listed (L : Lattice) (es : List ℕ) (fs : List ℤ) (at : ℕ) (before : List ℕ) (next : ℕ) (after : List ℕ) : Type 0 where
-  pub follows : Follows fs (4 * at) (each (vertexRecord L) es) (4 * next)
+-- the vertices of the edges es, by a rule, stand in a file's numbers from vertex `at` on, and the slots of es are numbered from there
+pub record Listed (rule : Rule) (L : Lattice) (es : List ℕ) (fs : List ℤ) (at : ℕ) (before : List ℕ) (next : ℕ) (after : List ℕ) : Type 0 where
+  pub follows : Follows fs (4 * at) (each (vertexRecord rule L) es) (4 * next)
   pub numbers : Numbers es at before next after
 
 -- so they are where next is at most nv, and in any case only slots of edges are written
-pub record Listing (L : Lattice) (es : List ℕ) (fs : List ℤ) (nv at : ℕ) (before : List ℕ) (next : ℕ) (after : List ℕ) : Type 0 where
-  pub listed : next ≤ nv → Listed L es fs at before next after
+pub record Listing (rule : Rule) (L : Lattice) (es : List ℕ) (fs : List ℤ) (nv at : ℕ) (before : List ℕ) (next : ℕ) (after : List ℕ) : Type 0 where
+  pub listed : next ≤ nv → Listed rule L es fs at before next after
   pub beyond : Beyond (neededSlots (L .size)) before after

@@ -1,4 +1,5 @@
 // A file's numbers against those of the sheet, in the sheet's own order.
+use paper::Rule;
 use paper::Sizes;
 ghost use mathlib.Core.Path.{_≡_};
 ghost use mathlib.Core.Bool.{true};
@@ -69,9 +70,10 @@ fn same_triangle_words(bytes: &[u8], nv: usize, at: usize, words: &[u32], n: usi
 
 // ── vertices ──
 
-// The number behind the vertices of the row of anchors at y and z, where the file has them from number `at` on; past V where it differs.
-// The slots of their edges are numbered.
+// The number behind the vertices of the row of anchors at y and z, where the file has them, by a rule, from number `at` on; past V where
+// it differs. The slots of their edges are numbered.
 fn same_row_vertices(
+    rule: Rule,
     samples: &[i16],
     sizes: Sizes,
     rows: &[u64],
@@ -92,9 +94,9 @@ fn same_row_vertices(
         let L = lattice sizes (now (samples .entry)) in
         let es = edgesOf sizes (now (rows .entry)) (now (vis .entry)) y z in
         let fs = fileVertices (now (bytes .entry)) in
-        ⌜ Listing L es fs nv at (now (slots .entry)) r (now (slots .exit)) ⌝ }
+        ⌜ Listing rule L es fs nv at (now (slots .entry)) r (now (slots .exit)) ⌝ }
 {
-    let next = dots::put_row_at(samples, sizes, rows, vis, y, z, slots, row, at, at);
+    let next = dots::put_row_at(rule, samples, sizes, rows, vis, y, z, slots, row, at, at);
     if nv < next {
         return next;
     }
@@ -107,6 +109,7 @@ fn same_row_vertices(
 
 // The same for the vertices of the layer of anchors at z.
 fn same_layer_vertices(
+    rule: Rule,
     samples: &[i16],
     sizes: Sizes,
     rows: &[u64],
@@ -126,13 +129,26 @@ fn same_layer_vertices(
         let L = lattice sizes (now (samples .entry)) in
         let es = layerEdges sizes (now (rows .entry)) (now (vis .entry)) z in
         let fs = fileVertices (now (bytes .entry)) in
-        ⌜ Listing L es fs nv at (now (slots .entry)) r (now (slots .exit)) ⌝ }
+        ⌜ Listing rule L es fs nv at (now (slots .entry)) r (now (slots .exit)) ⌝ }
 {
     let n = sizes.ny;
     let mut next = at;
     let mut y = 0;
     while y < n {
-        next = same_row_vertices(samples, sizes, rows, vis, y, z, bytes, nv, slots, row, next);
+        next = same_row_vertices(
+            rule,
+            samples,
+            sizes,
+            rows,
+            vis,
+            y,
+            z,
+            bytes,
+            nv,
+            slots,
+            row,
+            next,
+        );
         if nv < next {
             return next;
         }
@@ -143,6 +159,7 @@ fn same_layer_vertices(
 
 // The number behind all vertices, numbered from 0, where the file has them; past V where it differs.
 fn same_layers_vertices(
+    rule: Rule,
     samples: &[i16],
     sizes: Sizes,
     rows: &[u64],
@@ -160,13 +177,25 @@ fn same_layers_vertices(
         let L = lattice sizes (now (samples .entry)) in
         let es = edgesBy sizes (now (rows .entry)) (now (vis .entry)) in
         let fs = fileVertices (now (bytes .entry)) in
-        ⌜ Listing L es fs nv 0 (now (slots .entry)) r (now (slots .exit)) ⌝ }
+        ⌜ Listing rule L es fs nv 0 (now (slots .entry)) r (now (slots .exit)) ⌝ }
 {
     let n = sizes.nz;
     let mut next = 0;
     let mut z = 0;
     while z < n {
-        next = same_layer_vertices(samples, sizes, rows, vis, z, bytes, nv, slots, row, next);
+        next = same_layer_vertices(
+            rule,
+            samples,
+            sizes,
+            rows,
+            vis,
+            z,
+            bytes,
+            nv,
+            slots,
+            row,
+            next,
+        );
         if nv < next {
             return next;
         }
@@ -175,8 +204,9 @@ fn same_layers_vertices(
     next
 }
 
-// Whether the file's vertices are those of the edges that the cubes of vis have, in their own order; the slots of these are numbered.
+// Whether the file's vertices are, by a rule, those of the edges that the cubes of vis have, in their own order; the slots of these are numbered.
 pub fn same_vertices(
+    rule: Rule,
     samples: &[i16],
     sizes: Sizes,
     rows: &[u64],
@@ -192,12 +222,12 @@ pub fn same_vertices(
         let es = edgesBy sizes (now (rows .entry)) (now (vis .entry)) in
         let before = now (slots .entry) in
         let after = now (slots .exit) in
-        let same = (fileVertices (now (bytes .entry)) ≡ each (vertexRecord L) es) × (after ≡ numbered 0 es before) in
+        let same = (fileVertices (now (bytes .entry)) ≡ each (vertexRecord rule L) es) × (after ≡ numbered 0 es before) in
         ⌜ (r ≡ true → same) × Beyond (neededSlots sizes) before after ⌝ }
 {
     let mut row = [0i32; 1792];
     let nv = layout::vertex_count(bytes);
-    let next = same_layers_vertices(samples, sizes, rows, vis, bytes, nv, slots, &mut row);
+    let next = same_layers_vertices(rule, samples, sizes, rows, vis, bytes, nv, slots, &mut row);
     next == nv
 }
 

@@ -11,6 +11,7 @@ use Rattle.lists.specs.Lists.{range}
 use Rattle.lists.proofs.Every.{map-same-in}
 use Rattle.lists.proofs.Runs.{length-along, at-along}
 use Rattle.paper.specs.declared.Start.{Start}
+use Rattle.paper.specs.declared.Rule.{Rule}
 use Rattle.paper.specs.Lattice.{Lattice}
 use Rattle.paper.specs.Tables.{Tri, tri}
 use Rattle.paper.specs.Sheet.{Sheet, vertexRecord, sheetOf}
@@ -29,12 +30,12 @@ use Rattle.pairing.proofs.Names.{few-times, paired-same, by-number, tim
 use Rattle.pairing.proofs.Vertices.{one-vertex}
 use Rattle.pairing.proofs.Turned.{Turned, is-turned, turned-is, same-times}
 
-module _ (L : Lattice) (s : Start) (bs : List ℕ) (acc : Accepted L s bs) where
+module _ (rule : Rule) (L : Lattice) (s : Start) (bs : List ℕ) (acc : Accepted rule L s bs) where
   abbrev start : ℕ
   start = startOf L s
 
   abbrev S : Sheet
-  S = sheetOf L start
+  S = sheetOf rule L start
 
   abbrev vs : List ℤ
   vs = fileVertices bs
@@ -44,11 +45,11 @@ module _ (L : Lattice) (s : Start) (bs : List ℕ) (acc : Accepted L s bs) where
 
   -- ── records ──
 
-  recorded : (i : ℕ) → i < fileV bs → Recorded (vertexRecord L) S vs i
+  recorded : (i : ℕ) → i < fileV bs → Recorded (vertexRecord rule L) S vs i
   recorded = acc .compared .records
 
   is : (i : ℕ) (h : i < fileV bs) → edgeOf vs i ≡ pos (recorded i h .edge)
-  is i h = let r = recorded i h in record-edge L vs i (r .edge) (r .is)
+  is i h = let r = recorded i h in record-edge rule L vs i (r .edge) (r .is)
 
   abbrev nameOf : ℕ → ℕ
   nameOf i = natAbs (edgeOf vs i)
@@ -71,7 +72,7 @@ module _ (L : Lattice) (s : Start) (bs : List ℕ) (acc : Accepted L s bs) where
   vertices : OneVertex L start (fileEdges bs)
   unfolding fileEdges
   vertices =
-      let o = one-vertex L (acc .started .sizes) start (acc .started .start) in
+      let o = one-vertex rule L (acc .started .sizes) start (acc .started .start) in
       record {
         one = λ e c.
             let m = pick (eqb e) (S .edges) (λ y. omega (arith, o .one e c, y)) in

@@ -12,6 +12,7 @@ use Rattle.lists.proofs.Rising.{keep-rising}
 use Rattle.lists.proofs.Closure.{closed}
 use Rattle.paper.specs.declared.Sizes.{Sizes}
 use Rattle.paper.specs.declared.Place.{Place}
+use Rattle.paper.specs.declared.Rule.{Rule}
 use Rattle.paper.specs.Lattice.{Lattice, airAt, noFill, cubes, cubeNo, cubeAt, corner, mixed, mixedAt, visitable, Face, faces, stepOver, steps, visited}
 use Rattle.paper.specs.Within.{Sized, CubeIn}
 use Rattle.paper.specs.Tables.{Tri}
@@ -131,18 +132,19 @@ module _ (L : Lattice) (sized : Sized (L .size)) (start : ℕ) (inside : start <
           let g = step-in n f (subst (λ (q : Place). In f (faces q)) e j) h (subst (λ (q : Place). T (mixed (map (λ c. airAt L (corner q c)) (f .corners)))) e t) k in
           Memᴰ·cast (sym (cube-place z (f .beyond) (omega (arith, c .x)) (omega (arith, c .y)))) (in-map (cubeAt z) (visited-step n (cubeNo z (f .beyond)) (m .1) g))
 
-  triangles-are : sheetOf L start .byEdge ≡ each (trianglesAt z (airAt L)) places
+  triangles-are : (rule : Rule) → sheetOf rule L start .byEdge ≡ each (trianglesAt z (airAt L)) places
   unfolding cubeTriangles
-  triangles-are = parts L start .by-edge ∙ sym (each-map (trianglesAt z (airAt L)) (cubeAt z) (visited L start))
+  triangles-are rule = parts rule L start .by-edge ∙ sym (each-map (trianglesAt z (airAt L)) (cubeAt z) (visited L start))
 
   -- document 01's sheet by lattice edges: none of its directed edges occurs twice, whatever its start
-  pub few-by-edge : (e f : ℕ) → times (sheetOf L start .byEdge) e f ≤ 1
-  few-by-edge e f =
-      subst (λ (ts : List Tri). times ts e f ≤ 1) (sym triangles-are) (few z (airAt L) places places-unique place-in e f)
+  pub few-by-edge : (rule : Rule) (e f : ℕ) → times (sheetOf rule L start .byEdge) e f ≤ 1
+  few-by-edge rule e f =
+      subst (λ (ts : List Tri). times ts e f ≤ 1) (sym (triangles-are rule)) (few z (airAt L) places places-unique place-in e f)
 
   -- and where the start may be visited, they pair up
-  pub by-edge : T (visitable L (cubeAt z start)) → Paired (apart L) (sheetOf L start .byEdge)
-  by-edge v = subst (Paired (apart L)) (sym triangles-are) (paired-unshared z (airAt L) (visitable L) (visitable-in L) places (spread v))
+  pub by-edge : (rule : Rule) → T (visitable L (cubeAt z start)) → Paired (apart L) (sheetOf rule L start .byEdge)
+  by-edge rule v =
+      subst (Paired (apart L)) (sym (triangles-are rule)) (paired-unshared z (airAt L) (visitable L) (visitable-in L) places (spread v))
 
   -- ── where no sample is the fill ──
   module _ (n : T (noFill L)) where
@@ -157,16 +159,16 @@ module _ (L : Lattice) (sized : Sized (L .size)) (start : ℕ) (inside : start <
         ∙ (λ i. lone (λ p. no-fill-visitable L n p i) m (s .m))
         ∙ sym (outer-is z (airAt L) (s .known) (s .near))
 
-    pub apart-is : (e f : ℕ) → 0 < times (sheetOf L start .byEdge) e f → apart L e f ≡ outer z e f
-    apart-is e f h =
+    pub apart-is : (rule : Rule) (e f : ℕ) → 0 < times (sheetOf rule L start .byEdge) e f → apart L e f ≡ outer z e f
+    apart-is rule e f h =
         apart-outer e f
         (settle z (airAt L) (visitable L) (visitable-in L) places (spread start-free) e f
-        (subst (λ (ts : List Tri). 0 < times ts e f) triangles-are h))
+        (subst (λ (ts : List Tri). 0 < times ts e f) (triangles-are rule) h))
 
-    pub by-edge-outer : Paired (outer z) (sheetOf L start .byEdge)
-    by-edge-outer =
-        let p = by-edge start-free in
+    pub by-edge-outer : (rule : Rule) → Paired (outer z) (sheetOf rule L start .byEdge)
+    by-edge-outer rule =
+        let p = by-edge rule start-free in
         record {
           once = p .once;
-          reverse = λ e f h. p .reverse e f h ∙ ap (λ (b : Bool). cond {A = ℕ} b 0 1) (apart-is e f h);
+          reverse = λ e f h. p .reverse e f h ∙ ap (λ (b : Bool). cond {A = ℕ} b 0 1) (apart-is rule e f h);
         }

@@ -9,6 +9,7 @@ use Rattle.paper.specs.declared.Built.{Built}
 use Rattle.paper.specs.declared.Wrote.{Wrote}
 use Rattle.paper.specs.declared.Got.{Got}
 use Rattle.paper.specs.declared.Verdict.{Verdict}
+use Rattle.paper.specs.declared.Rule.{Rule}
 use Rattle.paper.specs.Lattice.{Lattice}
 use Rattle.paper.specs.Room.{Work}
 use Rattle.paper.specs.Build.{Lent, Builds}
@@ -31,6 +32,6 @@ pub reads-agree : {bs : List ℕ} {vs : List ℤ} {ts : List ℕ} {r r′ : Got}
     → Reads bs vs ts r us ss → Reads bs vs ts r′ us′ ss′ → (r ≡ r′) × (us ≡ us′) × (ss ≡ ss′)
 reads-agree a b = (one (a .answer) (b .answer), one (a .vertices) (b .vertices), one (a .triangles) (b .triangles))
 
-pub checks-agree : {L : Lattice} {s : Start} {bs : List ℕ} {before : Work} {r r′ : Verdict} {after after′ : Work}
-    → Checks L s bs before r after → Checks L s bs before r′ after′ → (r ≡ r′) × (after ≡ after′)
+pub checks-agree : {rule : Rule} {L : Lattice} {s : Start} {bs : List ℕ} {before : Work} {r r′ : Verdict} {after after′ : Work}
+    → Checks rule L s bs before r after → Checks rule L s bs before r′ after′ → (r ≡ r′) × (after ≡ after′)
 checks-agree a b = (one (a .answer) (b .answer), one (a .left) (b .left))

@@ -1,5 +1,5 @@
--- Calls of document 01's definitions, and what each gives as a list of numbers: what the tables of worked sheets are made of. Assumes
--- nothing.
+-- Calls of document 01's definitions, and what each gives as a list of numbers: what the tables of worked sheets are made of. Where a
+-- call names no rule of rounding, it is nearest. Assumes nothing.
 use mathlib.Core.Bool.{xor}
 use mathlib.Core.List.{List, [], _∷_, _++_, map}
 use Prim.Native.Nat.{ℕ, _+_, _-_, _*_, _/_}
@@ -12,13 +12,15 @@ use Rattle.lists.specs.Reach.{grow, rounds, reached}
 use Rattle.paper.specs.declared.Sizes.{Sizes}
 use Rattle.paper.specs.declared.Start.{Start}
 use Rattle.paper.specs.declared.Start.the-variants.{Lowest, Cube}
+use Rattle.paper.specs.declared.Rule.{Rule}
+use Rattle.paper.specs.declared.Rule.the-variants.{Nearest}
 use Rattle.paper.specs.declared.Built.{Built}
 use Rattle.paper.specs.declared.Verdict.{Verdict}
 use Rattle.paper.specs.declared.Wrote.{Wrote}
 use Rattle.paper.specs.declared.Got.{Got}
 use Rattle.paper.specs.Lattice.{Lattice, lattice, place, axis, axes, samples, air, sampleNo, sampleAt, valueAt, airAt, cubes, cubeNo, cubeAt, corner, mixed, mixedAt, fill, isFill, fillAt, inLattice, free, visitable, crossed, faces, stepOver, steps, visited, lowest, inner, inside, mayStart}
 use Rattle.paper.specs.Tables.{tets, rows, tetEdges, kinds, low, joins, kindOf}
-use Rattle.paper.specs.Sheet.{Sheet, edgeNo, anchorOf, endsOf, firstEnd, secondEnd, split, cubeEdges, vertexEdges, crossing, coordinate, recordAt, vertexRecord, weight, rowOf, rowAt, tetEdge, triEdges, trianglesAt, cubeTriangles, numbered, sheetBy, sheetOf, vertexWords, triangleWords}
+use Rattle.paper.specs.Sheet.{Sheet, edgeNo, anchorOf, endsOf, firstEnd, secondEnd, split, cubeEdges, vertexEdges, rounded, crossing, coordinate, recordAt, vertexRecord, weight, rowOf, rowAt, tetEdge, triEdges, trianglesAt, cubeTriangles, numbered, sheetBy, sheetOf, vertexWords, triangleWords}
 use Rattle.paper.specs.Room.{Work, work, Lengths, lengths, roomy, roomTests, frontAfter, outputAfter}
 use Rattle.paper.specs.Build.{Lent, lent, startOf, shapeTests, startTests, sampleTests, buildNumber, built, lentAfter}
 use Rattle.paper.specs.File.{Content, contentOf, bits32, signed32, fileLength, trailerBytes, fileBytes, badTriangle, firstBad, limits, writeVerdict, wrote, trailer, fileV, fileT, fileSizes, fileVertices, fileTriangles, laidOut, fileTests, readVerdict, got, bytesAfter, verticesAfter, trianglesAfter}
@@ -29,10 +31,10 @@ pub data Case : Type 0 where
   builds : ℕ → ℕ → Lattice → Start → Case
   -- the number of the start cube
   startsAt : Lattice → Start → Case
-  -- the numbers of the vertices and of the triangles
-  lists : Lattice → Start → Case
-  -- the file's length, and its trailer's numbers
-  files : Lattice → Case
+  -- the numbers of the vertices and of the triangles, under a rule
+  lists : Rule → Lattice → Start → Case
+  -- the file's length, and its trailer's numbers, under a rule
+  files : Rule → Lattice → Case
   -- the check of the lattice's own file, but with these triangles
   checks : Lattice → List ℕ → Case
   -- the check of a file with these vertices and triangles, of these sizes
@@ -41,12 +43,14 @@ pub data Case : Type 0 where
   checksBytes : Lattice → List ℕ → Case
   -- the check from one start of the file that is built from another
   checksFrom : Lattice → Start → Start → Case
+  -- the check under one rule of the file that is made under another
+  checksUnder : Rule → Rule → Lattice → Case
   -- its number, and then what each work slice holds
   checkLeaves : Lattice → List ℕ → Work → Case
   -- the same of a file with these vertices and triangles, of these sizes
   checkFileLeaves : Lattice → Sizes → List ℤ → List ℕ → Work → Case
-  -- t
-  crosses : ℤ → ℤ → Case
+  -- t, under a rule
+  crosses : Rule → ℤ → ℤ → Case
   -- the number of a build, and then what each lent slice holds
   leaves : Lattice → Start → Lent → Case
   -- the numbers up to 30 after which work room is cleared
@@ -108,7 +112,7 @@ abbrev pub works : Work → List ℕ
 works w = w .words ++ w .waiting ++ w .slots
 
 abbrev checkLeft : Lattice → List ℕ → Work → List ℕ
-checkLeft L bs w = checked L Lowest bs (lengths w) .number ∷ works (checkedAfter L Lowest bs w)
+checkLeft L bs w = checked Nearest L Lowest bs (lengths w) .number ∷ works (checkedAfter Nearest L Lowest bs w)
 
 abbrev pub numbers : Lent → List ℕ
 numbers l = map natAbs (l .vertices) ++ l .triangles ++ works (l .work)
@@ -131,20 +135,24 @@ fourth : ℕ → ℕ
 fourth n = n / 4
 
 unfoldable pub outcome : Case → List ℕ
-unfolding third fourth grow rounds reached axis axes samples air sampleNo sampleAt valueAt airAt cubes cubeNo cubeAt corner mixed mixedAt isFill fillAt inLattice free visitable crossed faces stepOver steps visited lowest inner inside mayStart tets rows tetEdges kinds low joins kindOf edgeNo anchorOf endsOf firstEnd secondEnd split cubeEdges vertexEdges crossing coordinate recordAt vertexRecord rowOf rowAt tetEdge triEdges trianglesAt cubeTriangles numbered sheetBy sheetOf vertexWords triangleWords xor roomy shapeTests startTests sampleTests roomTests buildNumber built frontAfter outputAfter lentAfter field bits32 signed fileLength trailerBytes fileBytes badTriangle firstBad limits writeVerdict wrote trailer fileV fileT fileSizes fileVertices fileTriangles laidOut fileTests readVerdict got sameSizes sameTriangle turned recordOf edgeOf badRecord cornerOf triangleOf badNaming complete sheetTests checked checkedAfter
+unfolding third fourth grow rounds reached axis axes samples air sampleNo sampleAt valueAt airAt cubes cubeNo cubeAt corner mixed mixedAt isFill fillAt inLattice free visitable crossed faces stepOver steps visited lowest inner inside mayStart tets rows tetEdges kinds low joins kindOf edgeNo anchorOf endsOf firstEnd secondEnd split cubeEdges vertexEdges rounded crossing coordinate recordAt vertexRecord rowOf rowAt tetEdge triEdges trianglesAt cubeTriangles numbered sheetBy sheetOf vertexWords triangleWords xor roomy shapeTests startTests sampleTests roomTests buildNumber built frontAfter outputAfter lentAfter field bits32 signed fileLength trailerBytes fileBytes badTriangle firstBad limits writeVerdict wrote trailer fileV fileT fileSizes fileVertices fileTriangles laidOut fileTests readVerdict got sameSizes sameTriangle turned recordOf edgeOf badRecord cornerOf triangleOf badNaming complete sheetTests checked checkedAfter
 outcome (builds nv nt L s) = answer (built L s (room nv nt))
 outcome (startsAt L s) = startOf L s ∷ []
-outcome (lists L s) = listed (sheetOf L (startOf L s))
-outcome (files L) = let S = sheetOf L (startOf L Lowest) in filed (file L S (length (S .triangles)) (triangleWords S))
-outcome (checks L ts) = says (checked L Lowest (file L (sheetOf L (startOf L Lowest)) (third (length ts)) ts) enough)
-outcome (checksFile L z vs ts) = says (checked L Lowest (fileBytes (contentOf z (fourth (length vs)) (third (length ts)) vs ts)) enough)
-outcome (checksBytes L bs) = says (checked L Lowest bs enough)
+outcome (lists rule L s) = listed (sheetOf rule L (startOf L s))
+outcome (files rule L) = let S = sheetOf rule L (startOf L Lowest) in filed (file L S (length (S .triangles)) (triangleWords S))
+outcome (checks L ts) = says (checked Nearest L Lowest (file L (sheetOf Nearest L (startOf L Lowest)) (third (length ts)) ts) enough)
+outcome (checksFile L z vs ts) =
+    says (checked Nearest L Lowest (fileBytes (contentOf z (fourth (length vs)) (third (length ts)) vs ts)) enough)
+outcome (checksBytes L bs) = says (checked Nearest L Lowest bs enough)
 outcome (checksFrom L s t) =
-    let S = sheetOf L (startOf L t) in
-    says (checked L s (file L S (length (S .triangles)) (triangleWords S)) enough)
+    let S = sheetOf Nearest L (startOf L t) in
+    says (checked Nearest L s (file L S (length (S .triangles)) (triangleWords S)) enough)
+outcome (checksUnder r q L) =
+    let S = sheetOf q L (startOf L Lowest) in
+    says (checked r L Lowest (file L S (length (S .triangles)) (triangleWords S)) enough)
 outcome (checkLeaves L bs w) = checkLeft L bs w
 outcome (checkFileLeaves L z vs ts w) = checkLeft L (fileBytes (contentOf z (fourth (length vs)) (third (length ts)) vs ts)) w
-outcome (crosses p q) = crossing p q ∷ []
+outcome (crosses rule p q) = crossing rule p q ∷ []
 outcome (leaves L s l) = buildNumber L s l ∷ numbers (lentAfter L s l)
 outcome clears = keep (λ n. eqb (getD (frontAfter n 1 (5 ∷ 5 ∷ [])) 0 0) 0) (range 0 31)
 outcome (limited nv nt) = weight (limits nv nt) 1 ∷ []
@@ -156,7 +164,7 @@ outcome (readsFile c nv nt) = read (got (fileBytes c) (replicate nv (pos 0)) (re
 outcome (readLeaves bs vs ts) = map folded (verticesAfter bs vs ts) ++ trianglesAfter bs vs ts
 outcome (signs n) = folded (signed32 n) ∷ []
 outcome (rereads L) =
-    let S = sheetOf L (startOf L Lowest) in
+    let S = sheetOf Nearest L (startOf L Lowest) in
     let bs = file L S (length (S .triangles)) (triangleWords S) in
     map natAbs (fileVertices bs) ++ fileTriangles bs
 

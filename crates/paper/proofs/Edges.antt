@@ -11,6 +11,7 @@ use Rattle.lists.proofs.Member.{or-cases, and-left, and-right, and3, xor-turn}
 use Rattle.lists.proofs.Every.{All}
 use Rattle.paper.specs.declared.Sizes.{Sizes}
 use Rattle.paper.specs.declared.Place.{Place}
+use Rattle.paper.specs.declared.Rule.{Rule}
 use Rattle.paper.specs.Lattice.{Lattice, place, samples, sampleNo, sampleAt, airAt, corner, cubes, cubeAt}
 use Rattle.paper.specs.Tables.{Ends, Tet, Tri, ends, kinds, low, kindOf}
 use Rattle.paper.specs.Sheet.{edgeNumbers, edgeNo, anchorOf, kindIn, endsOf, firstEnd, secondEnd, split, cubeEdges, recordAt, vertexRecord, tetEdge, triEdges, cubeTriangles}
@@ -99,7 +100,7 @@ pub record Standing (L : Lattice) (n : ℕ) : Type 0 where
   pub air-in : SampleIn (L .size) air
   pub solid-side : airAt L solid ≡ false
   pub air-side : airAt L air ≡ true
-  pub is : vertexRecord L n ≡ recordAt L n solid air
+  pub is : (rule : Rule) → vertexRecord rule L n ≡ recordAt rule L n solid air
 
 standing-at : (L : Lattice) (n : ℕ) (u v : Place) (b c : Bool) → Joined (L .size) n u v → SampleIn (L .size) u → SampleIn (L .size) v
     → airAt L u ≡ b → airAt L v ≡ c → T (xor b c) → Standing L n
@@ -112,8 +113,9 @@ standing-at L n u v true false j hu hv eu ev x = record {
   air-in = hu;
   solid-side = ev;
   air-side = eu;
-  is = (λ i. cond (airAt L (j .first i)) (recordAt L n (j .second i) (j .first i)) (recordAt L n (j .first i) (j .second i)))
-      ∙ ap (λ (b : Bool). cond b (recordAt L n v u) (recordAt L n u v)) eu;
+  is = λ rule.
+      (λ i. cond (airAt L (j .first i)) (recordAt rule L n (j .second i) (j .first i)) (recordAt rule L n (j .first i) (j .second i)))
+      ∙ ap (λ (b : Bool). cond b (recordAt rule L n v u) (recordAt rule L n u v)) eu;
 }
 standing-at L n u v false true j hu hv eu ev x = record {
   solid = u;
@@ -122,8 +124,9 @@ standing-at L n u v false true j hu hv eu ev x = record {
   air-in = hv;
   solid-side = eu;
   air-side = ev;
-  is = (λ i. cond (airAt L (j .first i)) (recordAt L n (j .second i) (j .first i)) (recordAt L n (j .first i) (j .second i)))
-      ∙ ap (λ (b : Bool). cond b (recordAt L n v u) (recordAt L n u v)) eu;
+  is = λ rule.
+      (λ i. cond (airAt L (j .first i)) (recordAt rule L n (j .second i) (j .first i)) (recordAt rule L n (j .first i) (j .second i)))
+      ∙ ap (λ (b : Bool). cond b (recordAt rule L n v u) (recordAt rule L n u v)) eu;
 }
 standing-at L n u v false false j hu hv eu ev x = absurd x
 

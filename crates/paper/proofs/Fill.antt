@@ -14,12 +14,13 @@ use Rattle.lists.proofs.Within.{T→false, members, member-any}
 use Rattle.paper.specs.declared.Place.{Place}
 use Rattle.paper.specs.declared.Start.the-variants.{Cube}
 use Rattle.paper.specs.declared.Verdict.{Verdict}
+use Rattle.paper.specs.declared.Rule.{Rule}
 use Rattle.paper.specs.Lattice.{Lattice, valueAt, fill, isFill, fillAt, noFill, sampleNo, cubes, cubeNo, cubeAt, corner, mixedAt, inLattice, free, visitable, crossed, visited}
 use Rattle.paper.specs.Within.{CubeIn}
 use Rattle.paper.specs.Sheet.{sheetOf}
 use Rattle.paper.specs.Tests.{test, verdict, judge}
 use Rattle.paper.specs.Room.{Lengths, lengths, vertexRoom, triangleRoom, roomTests}
-use Rattle.paper.specs.Build.{Lent, startOf, starts, shapeTests, startTests, sampleTests, buildNumber, uncounted, built}
+use Rattle.paper.specs.Build.{Lent, startOf, sheetFrom, starts, shapeTests, startTests, sampleTests, buildNumber, uncounted, built}
 use Rattle.paper.specs.File.{fileTests}
 use Rattle.paper.specs.Check.{sheetTests, checked}
 use Rattle.paper.proofs.Judged.{judge-past, judge-stop}
@@ -84,12 +85,12 @@ module _ (L : Lattice) (p : Place) (h : CubeIn (L .size) p) (c : ℕ) (l : c < 8
     stops z = absurd (omega (arith, z, ap (λ (v : Verdict). v .number) fill-tests))
 
     -- a check of any file
-    pub fill-checked : (bs : List ℕ) → checked L (Cube p) bs m ≡ verdict 5 0
+    pub fill-checked : (rule : Rule) (bs : List ℕ) → checked rule L (Cube p) bs m ≡ verdict 5 0
     unfolding checked
-    fill-checked bs =
+    fill-checked rule bs =
         let a = sampleTests L (Cube p) m in
         let b = fileTests bs in
-        let c = sheetTests (L .size) (sheetOf L (startOf L (Cube p))) bs in
+        let c = sheetTests (L .size) (sheetOf rule L (startOf L (Cube p))) bs in
         let d = judge-stop a b stops in
         judge-stop (a ++ b) c (λ z. stops (ap (λ (v : Verdict). v .number) (sym d) ∙ z))
         ∙ d
@@ -99,7 +100,7 @@ module _ (L : Lattice) (p : Place) (h : CubeIn (L .size) p) (c : ℕ) (l : c < 8
   pub fill-built : (t : Lent) → judge (shapeTests L (lengths (t .work))) .number ≡ 0 → built L (Cube p) t ≡ uncounted 5
   unfolding buildNumber
   fill-built t e =
-      let S = sheetOf L (startOf L (Cube p)) in
+      let S = sheetFrom L (Cube p) in
       let m = lengths (t .work) in
       built-at L (Cube p) t 5 false
       (ap (λ (v : Verdict). v .number)

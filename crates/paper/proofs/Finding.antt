@@ -11,6 +11,7 @@ use Rattle.lists.proofs.Member.{or-cases, and-both, and-left, and-right, and3, 
 use Rattle.lists.proofs.Every.{any-with}
 use Rattle.lists.proofs.Closure.{bool-same}
 use Rattle.paper.specs.declared.Sizes.{Sizes}
+use Rattle.paper.specs.declared.Rule.{Rule}
 use Rattle.paper.specs.Lattice.{Lattice, place, cubeNo, cubeAt, visited}
 use Rattle.paper.specs.Tables.{Tri, tri}
 use Rattle.paper.specs.Sheet.{anchorOf, cubeTriangles, sheetBy, sheetOf}
@@ -66,12 +67,12 @@ turned-cube z t u h =
 -- ── the cube that can hold a triangle ──
 
 -- a triangle, read from any corner, is in the sheet exactly when the cube that its edges give is visited and has it
-pub in-sheet : (L : Lattice) → Sized (L .size) → (start : ℕ) (t : Tri)
-    → any (turned t) (sheetOf L start .byEdge)
+pub in-sheet : (rule : Rule) (L : Lattice) → Sized (L .size) → (start : ℕ) (t : Tri)
+    → any (turned t) (sheetOf rule L start .byEdge)
     ≡ (isIn (visited L start) (cubeNo (L .size) (cubeOf (L .size) t))
     && any (turned t) (cubeTriangles L (cubeNo (L .size) (cubeOf (L .size) t))))
 unfolding sheetOf sheetBy
-in-sheet L s start t =
+in-sheet rule L s start t =
     let z = L .size in
     let vs = visited L start in
     let k = cubeNo z (cubeOf z t) in

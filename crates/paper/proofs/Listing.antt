@@ -16,6 +16,7 @@ use Rattle.lists.proofs.Runs.{rank-place}
 use Rattle.lists.proofs.Closure.{bool-same}
 use Rattle.lists.proofs.Counts.{Unique, rising-unique}
 use Rattle.paper.specs.declared.Place.{Place}
+use Rattle.paper.specs.declared.Rule.{Rule}
 use Rattle.paper.specs.Lattice.{Lattice, airAt, corner, cubes, cubeAt, visited}
 use Rattle.paper.specs.Tables.{Tet, Tri, ends, tri, tets, rows, tetEdges}
 use Rattle.paper.specs.Sheet.{Cut, Sheet, tetrahedra, edgeNumbers, edgeNo, firstEnd, secondEnd, split, cubeEdges, vertexEdges, recordAt, vertexRecord, rowAt, tetEdge, triEdges, trianglesAt, cubeTriangles, numbered, sheetBy, sheetOf, vertexWords, corners3, triangleWords}
@@ -111,8 +112,9 @@ module _ (C : Cut) (sound : Sound C) (L : Lattice) (s : Sized (L .size)) (start 
   triangles-among = edges-among C L sound s (visited L start) (visits-lt L start)
 
   -- each vertex stands at 0 to 4,128,768 on each axis
-  pub vertices-positioned : All (Positioned L) es
-  vertices-positioned = all-weak (Standing L) (Positioned L) (positioned L s) es (edges-stand C L sound s (visited L start) (visits-lt L start))
+  pub vertices-positioned : (rule : Rule) → All (Positioned rule L) es
+  vertices-positioned rule =
+      all-weak (Standing L) (Positioned rule L) (positioned rule L s) es (edges-stand C L sound s (visited L start) (visits-lt L start))
 
   -- every index of a triangle is below the number of vertices
   pub numbers-below : All (Below (length es)) (map (numbered es) ts)
@@ -184,65 +186,72 @@ tetrahedra-sound = record { numbers = cube-edges-lt; stand = cube-edges-stand; a
 -- ── document 01's sheet ──
 
 -- its lists, by the cubes that are visited
-pub record Parts (L : Lattice) (start : ℕ) (S : Sheet) : Type 0 where
+pub record Parts (rule : Rule) (L : Lattice) (start : ℕ) (S : Sheet) : Type 0 where
   pub edges : S .edges ≡ vertexEdges tetrahedra L (visited L start)
-  pub records : S .records ≡ map (vertexRecord L) (S .edges)
+  pub records : S .records ≡ map (vertexRecord rule L) (S .edges)
   pub by-edge : S .byEdge ≡ each (cubeTriangles L) (visited L start)
   pub triangles : S .triangles ≡ map (numbered (S .edges)) (S .byEdge)
   pub visits : S .visits ≡ length (visited L start)
 
-pub parts : (L : Lattice) (start : ℕ) → Parts L start (sheetOf L start)
+pub parts : (rule : Rule) (L : Lattice) (start : ℕ) → Parts rule L start (sheetOf rule L start)
 unfolding sheetOf sheetBy
-parts L start = record { edges = refl; records = refl; by-edge = refl; triangles = refl; visits = refl }
+parts rule L start = record { edges = refl; records = refl; by-edge = refl; triangles = refl; visits = refl }
 
 -- each edge once
-pub edges-unique : (L : Lattice) (start : ℕ) → Unique (sheetOf L start .edges)
+pub edges-unique : (rule : Rule) (L : Lattice) (start : ℕ) → Unique (sheetOf rule L start .edges)
 unfolding sheetOf sheetBy
-edges-unique L start = rising-unique 0 (vertexEdges tetrahedra L (visited L start)) (edges-rising tetrahedra L (visited L start))
+edges-unique rule L start = rising-unique 0 (vertexEdges tetrahedra L (visited L start)) (edges-rising tetrahedra L (visited L start))
 
-pub sheet-edges-lt : (L : Lattice) (start : ℕ) → All (λ e. e < edgeNumbers (L .size)) (sheetOf L start .edges)
+pub sheet-edges-lt : (rule : Rule) (L : Lattice) (start : ℕ) → All (λ e. e < edgeNumbers (L .size)) (sheetOf rule L start .edges)
 unfolding sheetOf sheetBy
-sheet-edges-lt L start = edges-lt tetrahedra L (visited L start)
+sheet-edges-lt rule L start = edges-lt tetrahedra L (visited L start)
 
-module _ (L : Lattice) (s : Sized (L .size)) (start : ℕ) where
+module _ (rule : Rule) (L : Lattice) (s : Sized (L .size)) (start : ℕ) where
   -- its vertices are on the side-changing edges of the visited cubes
-  pub sheet-edges : (e : ℕ) → isIn (sheetOf L start .edges) e ≡ isIn (each (cubeEdges L) (visited L start)) e
+  pub sheet-edges : (e : ℕ) → isIn (sheetOf rule L start .edges) e ≡ isIn (each (cubeEdges L) (visited L start)) e
   unfolding sheetOf sheetBy
   sheet-edges e = edges-exactly tetrahedra L tetrahedra-sound s (visited L start) (visits-lt L start) e
 
-  pub sheet-among : All (Among (sheetOf L start .edges)) (sheetOf L start .byEdge)
+  pub sheet-among : All (Among (sheetOf rule L start .edges)) (sheetOf rule L start .byEdge)
   unfolding sheetOf sheetBy
   sheet-among = triangles-among tetrahedra tetrahedra-sound L s start
 
-  pub sheet-positioned : All (Positioned L) (sheetOf L start .edges)
+  pub sheet-positioned : All (Positioned rule L) (sheetOf rule L start .edges)
   unfolding sheetOf sheetBy
-  sheet-positioned = vertices-positioned tetrahedra tetrahedra-sound L s start
+  sheet-positioned = vertices-positioned tetrahedra tetrahedra-sound L s start rule
 
-  pub indices-below : All (Below (length (sheetOf L start .edges))) (sheetOf L start .triangles)
+  pub indices-below : All (Below (length (sheetOf rule L start .edges))) (sheetOf rule L start .triangles)
   unfolding sheetOf sheetBy
   indices-below = numbers-below tetrahedra tetrahedra-sound L s start
 
-  pub indices-name : map (named (λ i. getD (sheetOf L start .edges) i 0)) (sheetOf L start .triangles) ≡ sheetOf L start .byEdge
+  pub indices-name :
+      map (named (λ i. getD (sheetOf rule L start .edges) i 0)) (sheetOf rule L start .triangles) ≡ sheetOf rule L start .byEdge
   unfolding sheetOf sheetBy
   indices-name = numbers-name tetrahedra tetrahedra-sound L s start
 
 -- ── numbers ──
 
-pub record-length : (L : Lattice) (e : ℕ) → length (vertexRecord L e) ≡ 4
+pub record-length : (rule : Rule) (L : Lattice) (e : ℕ) → length (vertexRecord rule L e) ≡ 4
 unfolding vertexRecord recordAt
-record-length L e = go (airAt L (firstEnd (L .size) e)) (recordAt L e (secondEnd (L .size) e) (firstEnd (L .size) e)) (recordAt L e (firstEnd (L .size) e) (secondEnd (L .size) e)) refl refl
+record-length rule L e =
+    let u = firstEnd (L .size) e in
+    let v = secondEnd (L .size) e in
+    go (airAt L u) (recordAt rule L e v u) (recordAt rule L e u v) refl refl
   where
     go : (b : Bool) (x y : List ℤ) → length x ≡ 4 → length y ≡ 4 → length (cond b x y) ≡ 4
     go true x y hx hy = hx
     go false x y hx hy = hy
 
 -- the numbers of the records are those of the vertices, four each
-pub vertex-words : (L : Lattice) (start : ℕ) → vertexWords (sheetOf L start) ≡ each (vertexRecord L) (sheetOf L start .edges)
+pub vertex-words : (rule : Rule) (L : Lattice) (start : ℕ)
+    → vertexWords (sheetOf rule L start) ≡ each (vertexRecord rule L) (sheetOf rule L start .edges)
 unfolding vertexWords sheetOf sheetBy
-vertex-words L start = each-map (λ r. r) (vertexRecord L) (sheetOf L start .edges)
+vertex-words rule L start = each-map (λ r. r) (vertexRecord rule L) (sheetOf rule L start .edges)
 
-pub vertex-words-length : (L : Lattice) (start : ℕ) → length (vertexWords (sheetOf L start)) ≡ 4 * length (sheetOf L start .edges)
-vertex-words-length L start = ap length (vertex-words L start) ∙ each-length (vertexRecord L) 4 (record-length L) (sheetOf L start .edges)
+pub vertex-words-length : (rule : Rule) (L : Lattice) (start : ℕ)
+    → length (vertexWords (sheetOf rule L start)) ≡ 4 * length (sheetOf rule L start .edges)
+vertex-words-length rule L start =
+    ap length (vertex-words rule L start) ∙ each-length (vertexRecord rule L) 4 (record-length rule L) (sheetOf rule L start .edges)
 
 -- three a triangle
 pub triangle-words-length : (S : Sheet) → length (triangleWords S) ≡ 3 * length (S .triangles)

@@ -13,12 +13,13 @@ use Rattle.lists.proofs.Member.{eq→T}
 use Rattle.paper.specs.declared.Start.{Start}
 use Rattle.paper.specs.declared.Start.the-variants.{Unnamed, Lowest, Cube}
 use Rattle.paper.specs.declared.Sizes.{Sizes}
+use Rattle.paper.specs.declared.Rule.{Rule}
 use Rattle.paper.specs.Lattice.{Lattice, cubes, crossed, mayStart}
 use Rattle.paper.specs.Sheet.{Sheet, vertexRecord, sheetOf}
 use Rattle.paper.specs.Within.{Sized}
 use Rattle.paper.specs.Tests.{Test, verdict, judge}
 use Rattle.paper.specs.Room.{Work, work, Lengths, lengths, needed, neededSlots, vertexRoom, triangleRoom, roomTests, clears, frontAfter, clean, workAfter}
-use Rattle.paper.specs.Build.{Lent, startOf, named, starts, shapeTests, startTests, sampleTests, buildNumber, counts, counted, uncounted, built}
+use Rattle.paper.specs.Build.{Lent, startOf, sheetFrom, named, starts, shapeTests, startTests, sampleTests, buildNumber, counts, counted, uncounted, built}
 use Rattle.paper.specs.File.{badTriangle, fileV, fileT, fileTriangles, fileTests}
 use Rattle.paper.specs.Check.{sheetTests, checked}
 use Rattle.paper.proofs.Tested.{indices-passed, Compared, compared}
@@ -113,7 +114,7 @@ module _ (nv nt vertices triangles : ℕ) where
 
 module _ (L : Lattice) (s : Start) (l : Lent) where
   abbrev S : Sheet
-  S = sheetOf L (startOf L s)
+  S = sheetFrom L s
 
   abbrev first-tests : List Test
   first-tests = sampleTests L s (lengths (l .work))
@@ -158,7 +159,7 @@ pub built-same : (L : Lattice) (s : Start) (l m : Lent) → vertexRoom (l .verti
     → (built L s l ≡ built L s m) × (buildNumber L s l ≡ buildNumber L s m)
 unfolding built buildNumber
 built-same L s l m v t w =
-    let S = sheetOf L (startOf L s) in
+    let S = sheetFrom L s in
     let n : 𝕀 → ℕ =
     λ i. judge (sampleTests L s (w i) ++ roomTests (length (S .edges)) (length (S .triangles)) (v i) (t i)) .number in
     ((λ i. cond (counts (n i)) (counted (n i) S) (uncounted (n i))), (λ i. n i))
@@ -197,30 +198,31 @@ unfolding sheetTests
 sheet-numbered z S bs = (omega arith, (omega arith, (omega arith, (omega arith, tt))))
 
 -- a file that is accepted passes them all
-pub all-passed : (L : Lattice) (s : Start) (bs : List ℕ) (m : Lengths) → checked L s bs m .number ≡ 0
-    → Passed (sampleTests L s m) × Passed (fileTests bs) × Passed (sheetTests (L .size) (sheetOf L (startOf L s)) bs)
+pub all-passed : (rule : Rule) (L : Lattice) (s : Start) (bs : List ℕ) (m : Lengths) → checked rule L s bs m .number ≡ 0
+    → Passed (sampleTests L s m) × Passed (fileTests bs) × Passed (sheetTests (L .size) (sheetOf rule L (startOf L s)) bs)
 unfolding checked
-all-passed L s bs m n =
+all-passed rule L s bs m n =
     let a = sampleTests L s m in
     let b = fileTests bs in
-    let S = sheetOf L (startOf L s) in
+    let S = sheetOf rule L (startOf L s) in
     let c = sheetTests (L .size) S bs in
     let k = numbered-both (a ++ b) c (numbered-both a b (sample-numbered L s m) (file-numbered bs)) (sheet-numbered (L .size) S bs) in
     let x = passed-both (a ++ b) c (judge-all (a ++ b ++ c) k n) in
     let y = passed-both a b (x .0) in
     (y .0, y .1, x .1)
 
-pub record Accepted (L : Lattice) (s : Start) (bs : List ℕ) : Type 0 where
+pub record Accepted (rule : Rule) (L : Lattice) (s : Start) (bs : List ℕ) : Type 0 where
   pub started : Started L s
   pub indices : (i : ℕ) → i < fileT bs → badTriangle (fileV bs) (fileTriangles bs) i ≡ false
-  pub compared : Compared (L .size) (vertexRecord L) (sheetOf L (startOf L s)) bs
+  pub compared : Compared (L .size) (vertexRecord rule L) (sheetOf rule L (startOf L s)) bs
 
-pub accepted : (L : Lattice) (s : Start) (bs : List ℕ) (m : Lengths) → checked L s bs m .number ≡ 0 → Accepted L s bs
-accepted L s bs m n =
-    let p = all-passed L s bs m n in
+pub accepted : (rule : Rule) (L : Lattice) (s : Start) (bs : List ℕ) (m : Lengths) → checked rule L s bs m .number ≡ 0
+    → Accepted rule L s bs
+accepted rule L s bs m n =
+    let p = all-passed rule L s bs m n in
     let k = startOf L s in
     record {
       started = sample-passed L s m (p .0);
       indices = indices-passed bs (p .1);
-      compared = compared (L .size) (vertexRecord L) (sheetOf L k) bs (parts L k .records) (p .2);
+      compared = compared (L .size) (vertexRecord rule L) (sheetOf rule L k) bs (parts rule L k .records) (p .2);
     }

@@ -5,8 +5,9 @@ use mathlib.Core.List.{List, [], _∷_, _++_, map}
 use lib.IntN.{pos, negsuc}
 use lib.ListN.{set, replicate, take, drop}
 use Rattle.paper.specs.declared.Start.the-variants.{Unnamed, Lowest}
+use Rattle.paper.specs.declared.Rule.the-variants.{Down, Nearest}
 use Rattle.paper.specs.File.{contentOf}
-use Rattle.paper.proofs.Cases.{Case, builds, startsAt, lists, files, checks, checksFile, checksBytes, checksFrom, checkLeaves, checkFileLeaves, leaves, clears, limited, writes, writeLeaves, bytes, reads, readsFile, readLeaves, signs, rereads, Row, row-of, outcome, sizes, lat, at, works, numbers, o, a, first-air, rtn-air, middle-air, two-air, zero-solid, steep, far-air, five-air, split-air, uneven, one-air, tray, corner-fill, parted, filled, full, clear-front, used, three-records, small-record, small-file}
+use Rattle.paper.proofs.Cases.{Case, builds, startsAt, lists, files, checks, checksFile, checksBytes, checksFrom, checksUnder, crosses, checkLeaves, checkFileLeaves, leaves, clears, limited, writes, writeLeaves, bytes, reads, readsFile, readLeaves, signs, rereads, Row, row-of, outcome, sizes, lat, at, works, numbers, o, a, first-air, rtn-air, middle-air, two-air, zero-solid, steep, far-air, five-air, split-air, uneven, one-air, tray, corner-fill, parted, filled, full, clear-front, used, three-records, small-record, small-file}
 
 table : List Row
 table =
@@ -15,15 +16,36 @@ table =
     ∷ row-of (checks first-air (1 ∷ 2 ∷ 0 ∷ 1 ∷ 2 ∷ 0 ∷ [])) (18 ∷ 1 ∷ [])
     ∷ row-of (checks first-air []) (19 ∷ 0 ∷ [])
     -- every row and kind; 0 beside 1; a crossing that is no whole number of units; three axes that differ
-    ∷ row-of (lists rtn-air Lowest) (6 ∷ 32768 ∷ 32768 ∷ 32768 ∷ 8 ∷ 65536 ∷ 32768 ∷ 0 ∷ 10 ∷ 65536 ∷ 32768 ∷ 32768 ∷ 14 ∷ 32768 ∷ 65536 ∷ 0 ∷ 18 ∷ 32768 ∷ 65536 ∷ 32768 ∷ 23 ∷ 65536 ∷ 65536 ∷ 32768 ∷ 3 ∷ 1 ∷ 0 ∷ 3 ∷ 0 ∷ 4 ∷ 1 ∷ 2 ∷ 0 ∷ 0 ∷ 2 ∷ 4 ∷ 4 ∷ 2 ∷ 5 ∷ [])
-    ∷ row-of (lists zero-solid Lowest) (0 ∷ 0 ∷ 0 ∷ 0 ∷ 4 ∷ 0 ∷ 0 ∷ 65536 ∷ 5 ∷ 0 ∷ 65536 ∷ 0 ∷ 8 ∷ 65536 ∷ 65536 ∷ 0 ∷ 9 ∷ 65536 ∷ 0 ∷ 65536 ∷ 0 ∷ 1 ∷ 2 ∷ 2 ∷ 1 ∷ 3 ∷ 3 ∷ 1 ∷ 4 ∷ [])
-    ∷ row-of (lists steep Lowest) (0 ∷ 21846 ∷ 0 ∷ 0 ∷ 1 ∷ 0 ∷ 21846 ∷ 0 ∷ 2 ∷ 0 ∷ 0 ∷ 21846 ∷ 1 ∷ 2 ∷ 0 ∷ [])
-    ∷ row-of (lists far-air Lowest) (9 ∷ 65536 ∷ 0 ∷ 32768 ∷ 10 ∷ 65536 ∷ 32768 ∷ 32768 ∷ 23 ∷ 65536 ∷ 65536 ∷ 32768 ∷ 28 ∷ 32768 ∷ 0 ∷ 65536 ∷ 33 ∷ 32768 ∷ 32768 ∷ 65536 ∷ 42 ∷ 32768 ∷ 65536 ∷ 65536 ∷ 0 ∷ 3 ∷ 1 ∷ 3 ∷ 4 ∷ 1 ∷ 1 ∷ 4 ∷ 5 ∷ 1 ∷ 5 ∷ 2 ∷ [])
-    ∷ row-of (lists five-air Lowest) (0 ∷ 32768 ∷ 0 ∷ 0 ∷ 4 ∷ 32768 ∷ 0 ∷ 32768 ∷ 5 ∷ 32768 ∷ 32768 ∷ 0 ∷ 6 ∷ 32768 ∷ 32768 ∷ 32768 ∷ 9 ∷ 65536 ∷ 0 ∷ 32768 ∷ 10 ∷ 65536 ∷ 32768 ∷ 32768 ∷ 14 ∷ 32768 ∷ 65536 ∷ 0 ∷ 18 ∷ 32768 ∷ 65536 ∷ 32768 ∷ 36 ∷ 65536 ∷ 32768 ∷ 65536 ∷ 42 ∷ 32768 ∷ 65536 ∷ 65536 ∷ 1 ∷ 0 ∷ 2 ∷ 6 ∷ 3 ∷ 1 ∷ 6 ∷ 1 ∷ 2 ∷ 6 ∷ 7 ∷ 3 ∷ 5 ∷ 4 ∷ 1 ∷ 5 ∷ 1 ∷ 3 ∷ 3 ∷ 7 ∷ 5 ∷ 5 ∷ 7 ∷ 9 ∷ 5 ∷ 9 ∷ 8 ∷ [])
-    ∷ row-of (lists split-air Lowest) (1 ∷ 0 ∷ 32768 ∷ 0 ∷ 3 ∷ 0 ∷ 32768 ∷ 32768 ∷ 5 ∷ 32768 ∷ 32768 ∷ 0 ∷ 9 ∷ 65536 ∷ 0 ∷ 32768 ∷ 10 ∷ 65536 ∷ 32768 ∷ 32768 ∷ 14 ∷ 32768 ∷ 65536 ∷ 0 ∷ 18 ∷ 32768 ∷ 65536 ∷ 32768 ∷ 28 ∷ 32768 ∷ 0 ∷ 65536 ∷ 29 ∷ 0 ∷ 32768 ∷ 65536 ∷ 36 ∷ 65536 ∷ 32768 ∷ 65536 ∷ 42 ∷ 32768 ∷ 65536 ∷ 65536 ∷ 0 ∷ 1 ∷ 2 ∷ 5 ∷ 2 ∷ 1 ∷ 5 ∷ 1 ∷ 8 ∷ 5 ∷ 8 ∷ 6 ∷ 3 ∷ 4 ∷ 7 ∷ 4 ∷ 6 ∷ 8 ∷ 4 ∷ 8 ∷ 7 ∷ 6 ∷ 4 ∷ 9 ∷ 6 ∷ 9 ∷ 10 ∷ [])
-    ∷ row-of (lists uneven Lowest) (7 ∷ 98304 ∷ 0 ∷ 0 ∷ 11 ∷ 98304 ∷ 0 ∷ 32768 ∷ 12 ∷ 98304 ∷ 32768 ∷ 0 ∷ 15 ∷ 131072 ∷ 32768 ∷ 0 ∷ 16 ∷ 131072 ∷ 0 ∷ 32768 ∷ 0 ∷ 1 ∷ 2 ∷ 2 ∷ 1 ∷ 3 ∷ 3 ∷ 1 ∷ 4 ∷ [])
-    ∷ row-of (lists uneven (at 0 2 1)) (65 ∷ 0 ∷ 196608 ∷ 32768 ∷ 67 ∷ 32768 ∷ 196608 ∷ 32768 ∷ 127 ∷ 0 ∷ 163840 ∷ 65536 ∷ 129 ∷ 0 ∷ 163840 ∷ 98304 ∷ 131 ∷ 32768 ∷ 163840 ∷ 65536 ∷ 147 ∷ 16384 ∷ 196608 ∷ 65536 ∷ 149 ∷ 0 ∷ 196608 ∷ 98304 ∷ 1 ∷ 2 ∷ 0 ∷ 1 ∷ 4 ∷ 2 ∷ 1 ∷ 5 ∷ 4 ∷ 2 ∷ 4 ∷ 3 ∷ 5 ∷ 3 ∷ 4 ∷ 5 ∷ 6 ∷ 3 ∷ [])
-    ∷ row-of (lists uneven (at 1 2 1)) (163 ∷ 131072 ∷ 196608 ∷ 98304 ∷ 225 ∷ 131072 ∷ 163840 ∷ 131072 ∷ 238 ∷ 98304 ∷ 196608 ∷ 131072 ∷ 0 ∷ 1 ∷ 2 ∷ [])
+    ∷ row-of (lists Nearest rtn-air Lowest) (6 ∷ 32768 ∷ 32768 ∷ 32768 ∷ 8 ∷ 65536 ∷ 32768 ∷ 0 ∷ 10 ∷ 65536 ∷ 32768 ∷ 32768 ∷ 14 ∷ 32768 ∷ 65536 ∷ 0 ∷ 18 ∷ 32768 ∷ 65536 ∷ 32768 ∷ 23 ∷ 65536 ∷ 65536 ∷ 32768 ∷ 3 ∷ 1 ∷ 0 ∷ 3 ∷ 0 ∷ 4 ∷ 1 ∷ 2 ∷ 0 ∷ 0 ∷ 2 ∷ 4 ∷ 4 ∷ 2 ∷ 5 ∷ [])
+    ∷ row-of (lists Nearest zero-solid Lowest) (0 ∷ 0 ∷ 0 ∷ 0 ∷ 4 ∷ 0 ∷ 0 ∷ 65536 ∷ 5 ∷ 0 ∷ 65536 ∷ 0 ∷ 8 ∷ 65536 ∷ 65536 ∷ 0 ∷ 9 ∷ 65536 ∷ 0 ∷ 65536 ∷ 0 ∷ 1 ∷ 2 ∷ 2 ∷ 1 ∷ 3 ∷ 3 ∷ 1 ∷ 4 ∷ [])
+    ∷ row-of (lists Nearest steep Lowest) (0 ∷ 21845 ∷ 0 ∷ 0 ∷ 1 ∷ 0 ∷ 21845 ∷ 0 ∷ 2 ∷ 0 ∷ 0 ∷ 21845 ∷ 1 ∷ 2 ∷ 0 ∷ [])
+    ∷ row-of (lists Nearest far-air Lowest) (9 ∷ 65536 ∷ 0 ∷ 32768 ∷ 10 ∷ 65536 ∷ 32768 ∷ 32768 ∷ 23 ∷ 65536 ∷ 65536 ∷ 32768 ∷ 28 ∷ 32768 ∷ 0 ∷ 65536 ∷ 33 ∷ 32768 ∷ 32768 ∷ 65536 ∷ 42 ∷ 32768 ∷ 65536 ∷ 65536 ∷ 0 ∷ 3 ∷ 1 ∷ 3 ∷ 4 ∷ 1 ∷ 1 ∷ 4 ∷ 5 ∷ 1 ∷ 5 ∷ 2 ∷ [])
+    ∷ row-of (lists Nearest five-air Lowest) (0 ∷ 32768 ∷ 0 ∷ 0 ∷ 4 ∷ 32768 ∷ 0 ∷ 32768 ∷ 5 ∷ 32768 ∷ 32768 ∷ 0 ∷ 6 ∷ 32768 ∷ 32768 ∷ 32768 ∷ 9 ∷ 65536 ∷ 0 ∷ 32768 ∷ 10 ∷ 65536 ∷ 32768 ∷ 32768 ∷ 14 ∷ 32768 ∷ 65536 ∷ 0 ∷ 18 ∷ 32768 ∷ 65536 ∷ 32768 ∷ 36 ∷ 65536 ∷ 32768 ∷ 65536 ∷ 42 ∷ 32768 ∷ 65536 ∷ 65536 ∷ 1 ∷ 0 ∷ 2 ∷ 6 ∷ 3 ∷ 1 ∷ 6 ∷ 1 ∷ 2 ∷ 6 ∷ 7 ∷ 3 ∷ 5 ∷ 4 ∷ 1 ∷ 5 ∷ 1 ∷ 3 ∷ 3 ∷ 7 ∷ 5 ∷ 5 ∷ 7 ∷ 9 ∷ 5 ∷ 9 ∷ 8 ∷ [])
+    ∷ row-of (lists Nearest split-air Lowest) (1 ∷ 0 ∷ 32768 ∷ 0 ∷ 3 ∷ 0 ∷ 32768 ∷ 32768 ∷ 5 ∷ 32768 ∷ 32768 ∷ 0 ∷ 9 ∷ 65536 ∷ 0 ∷ 32768 ∷ 10 ∷ 65536 ∷ 32768 ∷ 32768 ∷ 14 ∷ 32768 ∷ 65536 ∷ 0 ∷ 18 ∷ 32768 ∷ 65536 ∷ 32768 ∷ 28 ∷ 32768 ∷ 0 ∷ 65536 ∷ 29 ∷ 0 ∷ 32768 ∷ 65536 ∷ 36 ∷ 65536 ∷ 32768 ∷ 65536 ∷ 42 ∷ 32768 ∷ 65536 ∷ 65536 ∷ 0 ∷ 1 ∷ 2 ∷ 5 ∷ 2 ∷ 1 ∷ 5 ∷ 1 ∷ 8 ∷ 5 ∷ 8 ∷ 6 ∷ 3 ∷ 4 ∷ 7 ∷ 4 ∷ 6 ∷ 8 ∷ 4 ∷ 8 ∷ 7 ∷ 6 ∷ 4 ∷ 9 ∷ 6 ∷ 9 ∷ 10 ∷ [])
+    ∷ row-of (lists Nearest uneven Lowest) (7 ∷ 98304 ∷ 0 ∷ 0 ∷ 11 ∷ 98304 ∷ 0 ∷ 32768 ∷ 12 ∷ 98304 ∷ 32768 ∷ 0 ∷ 15 ∷ 131072 ∷ 32768 ∷ 0 ∷ 16 ∷ 131072 ∷ 0 ∷ 32768 ∷ 0 ∷ 1 ∷ 2 ∷ 2 ∷ 1 ∷ 3 ∷ 3 ∷ 1 ∷ 4 ∷ [])
+    ∷ row-of (lists Nearest uneven (at 0 2 1)) (65 ∷ 0 ∷ 196608 ∷ 32768 ∷ 67 ∷ 32768 ∷ 196608 ∷ 32768 ∷ 127 ∷ 0 ∷ 163840 ∷ 65536 ∷ 129 ∷ 0 ∷ 163840 ∷ 98304 ∷ 131 ∷ 32768 ∷ 163840 ∷ 65536 ∷ 147 ∷ 16384 ∷ 196608 ∷ 65536 ∷ 149 ∷ 0 ∷ 196608 ∷ 98304 ∷ 1 ∷ 2 ∷ 0 ∷ 1 ∷ 4 ∷ 2 ∷ 1 ∷ 5 ∷ 4 ∷ 2 ∷ 4 ∷ 3 ∷ 5 ∷ 3 ∷ 4 ∷ 5 ∷ 6 ∷ 3 ∷ [])
+    ∷ row-of (lists Nearest uneven (at 1 2 1)) (163 ∷ 131072 ∷ 196608 ∷ 98304 ∷ 225 ∷ 131072 ∷ 163840 ∷ 131072 ∷ 238 ∷ 98304 ∷ 196608 ∷ 131072 ∷ 0 ∷ 1 ∷ 2 ∷ [])
+    -- document 02 (vi): the same under document 01's rule, and each rule's file under both
+    ∷ row-of (lists Down steep Lowest) (0 ∷ 21846 ∷ 0 ∷ 0 ∷ 1 ∷ 0 ∷ 21846 ∷ 0 ∷ 2 ∷ 0 ∷ 0 ∷ 21846 ∷ 1 ∷ 2 ∷ 0 ∷ [])
+    ∷ row-of (checksUnder Down Down steep) (0 ∷ 0 ∷ [])
+    ∷ row-of (checksUnder Nearest Nearest steep) (0 ∷ 0 ∷ [])
+    ∷ row-of (checksUnder Nearest Down steep) (17 ∷ 0 ∷ [])
+    ∷ row-of (checksUnder Down Nearest steep) (17 ∷ 0 ∷ [])
+    ∷ row-of (leaves steep Lowest (used 12 3 1 1 56)) (0 ∷ 0 ∷ 21845 ∷ 0 ∷ 0 ∷ 1 ∷ 0 ∷ 21845 ∷ 0 ∷ 2 ∷ 0 ∷ 0 ∷ 21845 ∷ 1 ∷ 2 ∷ 0 ∷ replicate 58 0)
+    -- t under nearest, where it differs from document 01's and where it does not
+    ∷ row-of (crosses Nearest (pos 0) (pos 1)) (0 ∷ [])
+    ∷ row-of (crosses Nearest (negsuc 1) (pos 1)) (43691 ∷ [])
+    ∷ row-of (crosses Nearest (negsuc 2) (pos 2)) (39322 ∷ [])
+    ∷ row-of (crosses Nearest (negsuc 0) (pos 5)) (10923 ∷ [])
+    ∷ row-of (crosses Nearest (negsuc 0) (pos 2)) (21845 ∷ [])
+    ∷ row-of (crosses Nearest (negsuc 32766) (pos 1)) (65534 ∷ [])
+    ∷ row-of (crosses Nearest (negsuc 0) (pos 32767)) (2 ∷ [])
+    ∷ row-of (crosses Down (negsuc 2) (pos 2)) (39321 ∷ [])
+    ∷ row-of (crosses Down (negsuc 0) (pos 5)) (10922 ∷ [])
+    ∷ row-of (crosses Down (negsuc 0) (pos 2)) (21845 ∷ [])
+    ∷ row-of (crosses Down (negsuc 32766) (pos 1)) (65534 ∷ [])
+    -- a tie, which no 16-bit values have, goes to the solid end
+    ∷ row-of (crosses Nearest (negsuc 0) (pos 131071)) (0 ∷ [])
     -- steps: across a mixed face, and not across a face all solid or all air between crossed cubes
     ∷ row-of (builds 100 100 (lat 3 3 2 (o ∷ a ∷ replicate 16 o)) Lowest) (0 ∷ 6 ∷ 4 ∷ 2 ∷ [])
     ∷ row-of (builds 100 100 (lat 3 2 2 (a ∷ o ∷ a ∷ replicate 9 o)) Lowest) (0 ∷ 3 ∷ 1 ∷ 1 ∷ [])
@@ -35,8 +57,8 @@ table =
     ∷ row-of (builds 100 100 corner-fill Lowest) (0 ∷ 14 ∷ 23 ∷ 7 ∷ [])
     ∷ row-of (builds 100 100 parted (at 1 0 0)) (0 ∷ 5 ∷ 3 ∷ 1 ∷ [])
     ∷ row-of (builds 100 100 parted (at 0 1 0)) (0 ∷ 5 ∷ 3 ∷ 1 ∷ [])
-    ∷ row-of (lists parted (at 1 0 0)) (8 ∷ 65536 ∷ 32768 ∷ 0 ∷ 10 ∷ 65536 ∷ 32768 ∷ 32768 ∷ 12 ∷ 98304 ∷ 32768 ∷ 0 ∷ 28 ∷ 98304 ∷ 65536 ∷ 0 ∷ 30 ∷ 65536 ∷ 65536 ∷ 32768 ∷ 0 ∷ 2 ∷ 1 ∷ 3 ∷ 1 ∷ 2 ∷ 3 ∷ 4 ∷ 1 ∷ [])
-    ∷ row-of (lists parted (at 0 1 0)) (21 ∷ 32768 ∷ 65536 ∷ 0 ∷ 25 ∷ 32768 ∷ 65536 ∷ 32768 ∷ 26 ∷ 32768 ∷ 98304 ∷ 0 ∷ 29 ∷ 65536 ∷ 98304 ∷ 0 ∷ 30 ∷ 65536 ∷ 65536 ∷ 32768 ∷ 0 ∷ 1 ∷ 2 ∷ 2 ∷ 1 ∷ 3 ∷ 3 ∷ 1 ∷ 4 ∷ [])
+    ∷ row-of (lists Nearest parted (at 1 0 0)) (8 ∷ 65536 ∷ 32768 ∷ 0 ∷ 10 ∷ 65536 ∷ 32768 ∷ 32768 ∷ 12 ∷ 98304 ∷ 32768 ∷ 0 ∷ 28 ∷ 98304 ∷ 65536 ∷ 0 ∷ 30 ∷ 65536 ∷ 65536 ∷ 32768 ∷ 0 ∷ 2 ∷ 1 ∷ 3 ∷ 1 ∷ 2 ∷ 3 ∷ 4 ∷ 1 ∷ [])
+    ∷ row-of (lists Nearest parted (at 0 1 0)) (21 ∷ 32768 ∷ 65536 ∷ 0 ∷ 25 ∷ 32768 ∷ 65536 ∷ 32768 ∷ 26 ∷ 32768 ∷ 98304 ∷ 0 ∷ 29 ∷ 65536 ∷ 98304 ∷ 0 ∷ 30 ∷ 65536 ∷ 65536 ∷ 32768 ∷ 0 ∷ 1 ∷ 2 ∷ 2 ∷ 1 ∷ 3 ∷ 3 ∷ 1 ∷ 4 ∷ [])
     -- the fill at each corner of a cube; −32767 is none
     ∷ row-of (builds 9 9 (filled 0 7) Lowest) (5 ∷ 0 ∷ 0 ∷ 0 ∷ [])
     ∷ row-of (builds 9 9 (filled 1 7) Lowest) (5 ∷ 0 ∷ 0 ∷ 0 ∷ [])
@@ -138,7 +160,7 @@ table =
     ∷ row-of (checksBytes first-air (drop 1 small-file)) (14 ∷ 0 ∷ [])
     ∷ row-of (checksBytes first-air small-file) (16 ∷ 0 ∷ [])
     -- what these leave open, and single changes of the definitions that only these rows refuse
-    ∷ row-of (lists (lat 2 3 3 (replicate 8 o ++ a ∷ replicate 9 o)) Lowest) (16 ∷ 0 ∷ 65536 ∷ 32768 ∷ 17 ∷ 0 ∷ 98304 ∷ 32768 ∷ 18 ∷ 32768 ∷ 65536 ∷ 32768 ∷ 20 ∷ 32768 ∷ 98304 ∷ 32768 ∷ 43 ∷ 0 ∷ 32768 ∷ 65536 ∷ 45 ∷ 0 ∷ 32768 ∷ 98304 ∷ 47 ∷ 32768 ∷ 32768 ∷ 65536 ∷ 56 ∷ 32768 ∷ 65536 ∷ 65536 ∷ 57 ∷ 0 ∷ 98304 ∷ 65536 ∷ 58 ∷ 0 ∷ 65536 ∷ 98304 ∷ 2 ∷ 4 ∷ 0 ∷ 2 ∷ 6 ∷ 4 ∷ 2 ∷ 7 ∷ 6 ∷ 1 ∷ 2 ∷ 0 ∷ 3 ∷ 2 ∷ 1 ∷ 1 ∷ 8 ∷ 3 ∷ 3 ∷ 7 ∷ 2 ∷ 3 ∷ 8 ∷ 7 ∷ 4 ∷ 6 ∷ 5 ∷ 7 ∷ 5 ∷ 6 ∷ 7 ∷ 9 ∷ 5 ∷ 8 ∷ 9 ∷ 7 ∷ [])
+    ∷ row-of (lists Nearest (lat 2 3 3 (replicate 8 o ++ a ∷ replicate 9 o)) Lowest) (16 ∷ 0 ∷ 65536 ∷ 32768 ∷ 17 ∷ 0 ∷ 98304 ∷ 32768 ∷ 18 ∷ 32768 ∷ 65536 ∷ 32768 ∷ 20 ∷ 32768 ∷ 98304 ∷ 32768 ∷ 43 ∷ 0 ∷ 32768 ∷ 65536 ∷ 45 ∷ 0 ∷ 32768 ∷ 98304 ∷ 47 ∷ 32768 ∷ 32768 ∷ 65536 ∷ 56 ∷ 32768 ∷ 65536 ∷ 65536 ∷ 57 ∷ 0 ∷ 98304 ∷ 65536 ∷ 58 ∷ 0 ∷ 65536 ∷ 98304 ∷ 2 ∷ 4 ∷ 0 ∷ 2 ∷ 6 ∷ 4 ∷ 2 ∷ 7 ∷ 6 ∷ 1 ∷ 2 ∷ 0 ∷ 3 ∷ 2 ∷ 1 ∷ 1 ∷ 8 ∷ 3 ∷ 3 ∷ 7 ∷ 2 ∷ 3 ∷ 8 ∷ 7 ∷ 4 ∷ 6 ∷ 5 ∷ 7 ∷ 5 ∷ 6 ∷ 7 ∷ 9 ∷ 5 ∷ 8 ∷ 9 ∷ 7 ∷ [])
     ∷ row-of (builds 100 100 (lat 3 2 2 (o ∷ o ∷ a ∷ replicate 9 o)) Lowest) (0 ∷ 5 ∷ 3 ∷ 1 ∷ [])
     ∷ row-of (writes (sizes 1 2 2) 4 1 (replicate 12 (pos 0)) (1 ∷ 2 ∷ 0 ∷ []) 84) (1 ∷ 0 ∷ 0 ∷ [])
     ∷ row-of (writes (sizes 2 2 2) 3 1 (replicate 12 (pos 0)) (3 ∷ 2 ∷ 0 ∷ []) 84) (15 ∷ 0 ∷ 0 ∷ [])

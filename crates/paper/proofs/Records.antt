@@ -10,6 +10,7 @@ use lib.ListN.{getD, drop}
 use lib.Seq.{getD-take, getD-drop}
 use Rattle.lists.proofs.Member.{and-both, and-left, and-right}
 use Rattle.paper.specs.declared.Place.{Place}
+use Rattle.paper.specs.declared.Rule.{Rule}
 use Rattle.paper.specs.Lattice.{Lattice, airAt}
 use Rattle.paper.specs.Sheet.{firstEnd, secondEnd, recordAt, vertexRecord}
 use Rattle.paper.specs.Check.{sameNumber, sameNumbers, recordOf, edgeOf}
@@ -44,11 +45,11 @@ pub numbers-same : (l m : List ℤ) → l ≡ m → T (sameNumbers l m)
 numbers-same l m e = subst (λ (k : List ℤ). T (sameNumbers l k)) e (numbers-own l)
 
 -- a vertex record begins with its edge
-first-number : (L : Lattice) (e : ℕ) → getD (vertexRecord L e) 0 (pos 0) ≡ pos e
+first-number : (rule : Rule) (L : Lattice) (e : ℕ) → getD (vertexRecord rule L e) 0 (pos 0) ≡ pos e
 unfolding vertexRecord recordAt
-first-number L e = go (airAt L (firstEnd (L .size) e)) (firstEnd (L .size) e) (secondEnd (L .size) e)
+first-number rule L e = go (airAt L (firstEnd (L .size) e)) (firstEnd (L .size) e) (secondEnd (L .size) e)
   where
-    go : (b : Bool) (u v : Place) → getD (cond b (recordAt L e v u) (recordAt L e u v)) 0 (pos 0) ≡ pos e
+    go : (b : Bool) (u v : Place) → getD (cond b (recordAt rule L e v u) (recordAt rule L e u v)) 0 (pos 0) ≡ pos e
     go true u v = refl
     go false u v = refl
 
@@ -61,13 +62,14 @@ record-first vs i =
 pub edges-same : (vs : List ℤ) (i j : ℕ) → recordOf vs i ≡ recordOf vs j → edgeOf vs i ≡ edgeOf vs j
 edges-same vs i j q = record-first vs i ∙ (ap (λ (l : List ℤ). getD l 0 (pos 0)) q ∙ sym (record-first vs j))
 
-pub record-edge : (L : Lattice) (vs : List ℤ) (i e : ℕ) → recordOf vs i ≡ vertexRecord L e → edgeOf vs i ≡ pos e
-record-edge L vs i e q = record-first vs i ∙ (ap (λ (l : List ℤ). getD l 0 (pos 0)) q ∙ first-number L e)
+pub record-edge : (rule : Rule) (L : Lattice) (vs : List ℤ) (i e : ℕ) → recordOf vs i ≡ vertexRecord rule L e → edgeOf vs i ≡ pos e
+record-edge rule L vs i e q = record-first vs i ∙ (ap (λ (l : List ℤ). getD l 0 (pos 0)) q ∙ first-number rule L e)
 
 -- a record of some vertex is that of the vertex on its edge
-pub record-named : (L : Lattice) (vs : List ℤ) (i e k : ℕ) → recordOf vs i ≡ vertexRecord L e → edgeOf vs i ≡ pos k → recordOf vs i ≡ vertexRecord L k
-record-named L vs i e k q f = q ∙ ap (λ (x : ℤ). vertexRecord L (natAbs x)) (sym (record-edge L vs i e q) ∙ f)
+pub record-named : (rule : Rule) (L : Lattice) (vs : List ℤ) (i e k : ℕ)
+    → recordOf vs i ≡ vertexRecord rule L e → edgeOf vs i ≡ pos k → recordOf vs i ≡ vertexRecord rule L k
+record-named rule L vs i e k q f = q ∙ ap (λ (x : ℤ). vertexRecord rule L (natAbs x)) (sym (record-edge rule L vs i e q) ∙ f)
 
 -- two edges with one record are one
-pub one-edge : (L : Lattice) (e k : ℕ) → vertexRecord L e ≡ vertexRecord L k → e ≡ k
-one-edge L e k q = ap natAbs (sym (first-number L e) ∙ (ap (λ (l : List ℤ). getD l 0 (pos 0)) q ∙ first-number L k))
+pub one-edge : (rule : Rule) (L : Lattice) (e k : ℕ) → vertexRecord rule L e ≡ vertexRecord rule L k → e ≡ k
+one-edge rule L e k q = ap natAbs (sym (first-number rule L e) ∙ (ap (λ (l : List ℤ). getD l 0 (pos 0)) q ∙ first-number rule L k))

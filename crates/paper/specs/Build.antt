@@ -1,4 +1,5 @@
--- Document 01, building, with document 02 (iv), the start: the answer, and what each lent slice then holds. Assumes nothing.
+-- Document 01, building, with document 02 (iv), the start, and (vi), the rule of rounding: the answer, and what each lent slice then
+-- holds. Assumes nothing.
 use mathlib.Core.Path.{_≡_, refl}
 use mathlib.Core.Bool.{Bool, true, cond}
 use mathlib.Core.List.{List, [], _∷_, _++_}
@@ -10,6 +11,8 @@ use Rattle.lists.specs.Lists.{range, any, isIn}
 use Rattle.paper.specs.declared.Sizes.{Sizes}
 use Rattle.paper.specs.declared.Start.{Start}
 use Rattle.paper.specs.declared.Start.the-variants.{Unnamed, Lowest, Cube}
+use Rattle.paper.specs.declared.Rule.{Rule}
+use Rattle.paper.specs.declared.Rule.the-variants.{Nearest}
 use Rattle.paper.specs.declared.Built.{Built}
 use Rattle.paper.specs.Lattice.{Lattice, lattice, axes, samples, air, sampleNo, valueAt, airAt, isFill, fillAt, cubes, cubeNo, cubeAt, corner, mixed, mixedAt, inLattice, free, visitable, crossed, lowest, inner, inside, mayStart}
 use Rattle.paper.specs.Sheet.{Sheet, sheetOf, vertexWords, triangleWords}
@@ -58,10 +61,18 @@ startTests L s = test 4 (named (L .size) s) ∷ test 5 (starts L s) ∷ []
 unfoldable pub sampleTests : Lattice → Start → Lengths → List Test
 sampleTests L s n = shapeTests L n ++ startTests L s
 
+-- document 02 (vi): "Round t to the nearest unit", "The builder follows"
+abbrev pub buildRule : Rule
+buildRule = Nearest
+
+-- the sheet that is built
+abbrev pub sheetFrom : Lattice → Start → Sheet
+sheetFrom L s = sheetOf buildRule L (startOf L s)
+
 -- "Building: 1 to 7."
 unfoldable pub buildNumber : Lattice → Start → Lent → ℕ
 buildNumber L s l =
-    let S = sheetOf L (startOf L s) in
+    let S = sheetFrom L s in
     judge
     (sampleTests L s (lengths (l .work))
     ++ roomTests (length (S .edges)) (length (S .triangles)) (vertexRoom (l .vertices)) (triangleRoom (l .triangles)))
@@ -82,7 +93,7 @@ uncounted n = record { number = n; vertices = 0; triangles = 0; cubes = 0 }
 unfoldable pub built : Lattice → Start → Lent → Built
 built L s l =
     let n = buildNumber L s l in
-    cond (counts n) (counted n (sheetOf L (startOf L s))) (uncounted n)
+    cond (counts n) (counted n (sheetFrom L s)) (uncounted n)
 
 -- what a build leaves in what it was lent, by its number and its sheet
 abbrev pub leftAt : ℕ → Sheet → Sizes → Lent → Lent
@@ -90,7 +101,7 @@ leftAt n S z l =
     lent (outputAfter n (vertexWords S) (l .vertices)) (outputAfter n (triangleWords S) (l .triangles)) (workAfter n z (l .work))
 
 unfoldable pub lentAfter : Lattice → Start → Lent → Lent
-lentAfter L s l = leftAt (buildNumber L s l) (sheetOf L (startOf L s)) (L .size) l
+lentAfter L s l = leftAt (buildNumber L s l) (sheetFrom L s) (L .size) l
 
 -- the contract of a build: its answer, and what it leaves
 pub record Builds (L : Lattice) (s : Start) (before : Lent) (r : Built) (after : Lent) : Type 0 where

@@ -1,4 +1,4 @@
--- Document 01, checking: a sheet file against the samples and a start. Assumes nothing.
+-- Document 01, checking: a sheet file against the samples and a start, under a rule of rounding (02 (vi)). Assumes nothing.
 use mathlib.Core.Path.{_≡_}
 use mathlib.Core.Bool.{Bool, true, false, not, _&&_, _||_}
 use mathlib.Core.List.{List, [], _∷_, _++_}
@@ -9,6 +9,7 @@ use lib.ListN.{length, getD, take, drop}
 use Rattle.lists.specs.Lists.{range, any, all, first}
 use Rattle.paper.specs.declared.Sizes.{Sizes}
 use Rattle.paper.specs.declared.Start.{Start}
+use Rattle.paper.specs.declared.Rule.{Rule}
 use Rattle.paper.specs.declared.Verdict.{Verdict}
 use Rattle.paper.specs.Lattice.{Lattice}
 use Rattle.paper.specs.Tables.{Tri, tri}
@@ -90,15 +91,15 @@ sheetTests z S bs =
     ∷ []
 
 -- "Checking: 1 to 5 on the samples, then 11, 12, 1, 14, 15 on the file, then 16 to 19.", "Checking returns the number and a
--- place, nothing else."
-unfoldable pub checked : Lattice → Start → List ℕ → Lengths → Verdict
-checked L s bs n = judge (sampleTests L s n ++ fileTests bs ++ sheetTests (L .size) (sheetOf L (startOf L s)) bs)
+-- place, nothing else."; document 02 (vi): "The checker is told which of the two rules a file was made under"
+unfoldable pub checked : Rule → Lattice → Start → List ℕ → Lengths → Verdict
+checked rule L s bs n = judge (sampleTests L s n ++ fileTests bs ++ sheetTests (L .size) (sheetOf rule L (startOf L s)) bs)
 
 -- what a check leaves in the work room
-unfoldable pub checkedAfter : Lattice → Start → List ℕ → Work → Work
-checkedAfter L s bs w = workAfter (checked L s bs (lengths w) .number) (L .size) w
+unfoldable pub checkedAfter : Rule → Lattice → Start → List ℕ → Work → Work
+checkedAfter rule L s bs w = workAfter (checked rule L s bs (lengths w) .number) (L .size) w
 
 -- the contract of a checker: its answer, and what it leaves
-pub record Checks (L : Lattice) (s : Start) (bs : List ℕ) (before : Work) (r : Verdict) (after : Work) : Type 0 where
-  pub answer : r ≡ checked L s bs (lengths before)
-  pub left : after ≡ checkedAfter L s bs before
+pub record Checks (rule : Rule) (L : Lattice) (s : Start) (bs : List ℕ) (before : Work) (r : Verdict) (after : Work) : Type 0 where
+  pub answer : r ≡ checked rule L s bs (lengths before)
+  pub left : after ≡ checkedAfter rule L s bs before

@@ -1,4 +1,5 @@
--- Document 01, "Edges, vertices, order": the sheet of a lattice and a start. Assumes nothing.
+-- Document 01, "Edges, vertices, order", with document 02 (vi): the sheet of a rule of rounding, a lattice and a start. Assumes
+-- nothing.
 use mathlib.Core.Bool.{Bool, true, false, cond, xor}
 use mathlib.Core.List.{List, [], _∷_, map}
 use Prim.Native.Nat.{ℕ, _+_, _-_, _*_, _/_, _%_}
@@ -8,6 +9,8 @@ use lib.ListN.{length, getD}
 use Rattle.lists.specs.Lists.{range, keep, each, isIn, rank}
 use Rattle.paper.specs.declared.Sizes.{Sizes}
 use Rattle.paper.specs.declared.Place.{Place}
+use Rattle.paper.specs.declared.Rule.{Rule}
+use Rattle.paper.specs.declared.Rule.the-variants.{Down, Nearest}
 use Rattle.paper.specs.Lattice.{Lattice, samples, sampleNo, sampleAt, valueAt, airAt, corner, cubeAt, visited}
 use Rattle.paper.specs.Tables.{Ends, Tet, Tri, ends, tri, tets, rows, tetEdges, kinds, low, kindOf}
 
@@ -44,29 +47,35 @@ secondEnd z e = corner (anchorOf z e) (endsOf (kindIn e) .b)
 
 -- ── vertices ──
 
--- "t is 65,536 × (−p) divided by (q − p), rounded down", p of the solid end and q of the air end
-unfoldable pub crossing : ℤ → ℤ → ℕ
-crossing p q = 65536 * natAbs (negℤ p) / natAbs (q -ℤ p)
+-- n / d in whole units. Document 01: "rounded down". Document 02 (vi): "Round t to the nearest unit, ties towards the solid end.",
+-- from which t is measured: one more where more than half a unit is left
+unfoldable pub rounded : Rule → ℕ → ℕ → ℕ
+rounded Down n d = n / d
+rounded Nearest n d = cond (ltb d (2 * (n % d))) (n / d + 1) (n / d)
+
+-- "t is 65,536 × (−p) divided by (q − p)", rounded by a rule, p of the solid end and q of the air end
+unfoldable pub crossing : Rule → ℤ → ℤ → ℕ
+crossing rule p q = rounded rule (65536 * natAbs (negℤ p)) (natAbs (q -ℤ p))
 
 -- "65,536 × the solid end's coordinate, plus or minus t on the axes where the ends differ": from s towards a
 unfoldable pub coordinate : ℕ → ℕ → ℕ → ℕ
 coordinate s a t = cond (eqb s a) (65536 * s) (cond (ltb s a) (65536 * s + t) (65536 * s - t))
 
 -- "A vertex record is four signed 32-bit numbers (edge, x, y, z)": with the solid end at s and the air end at a
-unfoldable pub recordAt : Lattice → ℕ → Place → Place → List ℤ
-recordAt L e s a =
-    let t = crossing (valueAt L s) (valueAt L a) in
+unfoldable pub recordAt : Rule → Lattice → ℕ → Place → Place → List ℤ
+recordAt rule L e s a =
+    let t = crossing rule (valueAt L s) (valueAt L a) in
     pos e
     ∷ pos (coordinate (s .x) (a .x) t)
     ∷ pos (coordinate (s .y) (a .y) t)
     ∷ pos (coordinate (s .z) (a .z) t)
     ∷ []
 
-unfoldable pub vertexRecord : Lattice → ℕ → List ℤ
-vertexRecord L e =
+unfoldable pub vertexRecord : Rule → Lattice → ℕ → List ℤ
+vertexRecord rule L e =
     let u = firstEnd (L .size) e in
     let v = secondEnd (L .size) e in
-    cond (airAt L u) (recordAt L e v u) (recordAt L e u v)
+    cond (airAt L u) (recordAt rule L e v u) (recordAt rule L e u v)
 
 -- how many numbers a vertex record has, in memory and in a file, and what of it goes into a file
 abbrev pub recordLength : ℕ
@@ -146,16 +155,16 @@ pub record Sheet : Type 0 where
   pub visits : ℕ
 
 -- "Triangles are listed by rising cube number"
-unfoldable pub sheetBy : Cut → Lattice → ℕ → Sheet
-sheetBy C L start =
+unfoldable pub sheetBy : Rule → Cut → Lattice → ℕ → Sheet
+sheetBy rule C L start =
     let ks = visited L start in
     let es = vertexEdges C L ks in
     let ts = each (C .triangles L) ks in
-    record { edges = es; records = map (vertexRecord L) es; byEdge = ts; triangles = map (numbered es) ts; visits = length ks }
+    record { edges = es; records = map (vertexRecord rule L) es; byEdge = ts; triangles = map (numbered es) ts; visits = length ks }
 
--- document 01's sheet
-unfoldable pub sheetOf : Lattice → ℕ → Sheet
-sheetOf L start = sheetBy tetrahedra L start
+-- document 01's sheet, under a rule
+unfoldable pub sheetOf : Rule → Lattice → ℕ → Sheet
+sheetOf rule L start = sheetBy rule tetrahedra L start
 
 -- the numbers of the vertex records, one behind the other, and those of the triangles
 unfoldable pub vertexWords : Sheet → List ℤ

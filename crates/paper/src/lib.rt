@@ -1,4 +1,4 @@
-// What the documents' answers and starts are made of. The definitions that they give them stand in specs/.
+// What the documents' answers, starts and rules are made of. The definitions that they give them stand in specs/.
 
 // How many samples a lattice has on each axis.
 #[repr(C)]
@@ -21,6 +21,12 @@ pub enum Start {
     Unnamed,
     Lowest,
     Cube(Place),
+}
+
+// How t is rounded: down, as in document 01, or to the nearest unit.
+pub enum Rule {
+    Down,
+    Nearest,
 }
 
 // The answer of a test: 0 or the number of a refusal, and its place.

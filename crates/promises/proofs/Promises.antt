@@ -3,11 +3,12 @@
 -- demands and the round trips that follow from these contracts; each body is the theorem. What has to be believed are the definitions that
 -- the statements name. Assumes nothing.
 use mathlib.Core.Path.{_≡_, ap, _∙_}
+use mathlib.Core.Logic.{_⊎_}
 use mathlib.Core.List.{List}
 use mathlib.Core.Bool.{Bool, true, false, _&&_}
 use Prim.Native.Nat.{ℕ, _+_, _*_, _<_, _≤_}
-use lib.IntN.{ℤ, pos, negsuc}
-use lib.Signed.{ltZ}
+use lib.IntN.{ℤ, pos, negsuc, negℤ, _-ℤ_, natAbs}
+use lib.Signed.{mag, ltZ}
 use lib.Dec.{T}
 use lib.ListN.{length, getD, take}
 use lib.Ieee.{Float, nan, binary32, ofBits, toBits, sub, lt}
@@ -16,16 +17,18 @@ use Rattle.paper.specs.declared.Sizes.{Sizes}
 use Rattle.paper.specs.declared.Place.{Place}
 use Rattle.paper.specs.declared.Start.{Start}
 use Rattle.paper.specs.declared.Start.the-variants.{Unnamed, Lowest, Cube}
+use Rattle.paper.specs.declared.Rule.{Rule}
+use Rattle.paper.specs.declared.Rule.the-variants.{Down, Nearest}
 use Rattle.paper.specs.declared.Built.{Built}
 use Rattle.paper.specs.declared.Wrote.{Wrote}
 use Rattle.paper.specs.declared.Got.{Got}
 use Rattle.paper.specs.declared.Verdict.{Verdict}
-use Rattle.paper.specs.Lattice.{Lattice, fillAt, noFill, cubes, cubeAt, corner, crossed, visited, inLattice, faces, inside}
+use Rattle.paper.specs.Lattice.{Lattice, air, fillAt, noFill, cubes, cubeAt, corner, crossed, visited, inLattice, faces, inside}
 use Rattle.paper.specs.Within.{Sized, CubeIn}
-use Rattle.paper.specs.Sheet.{sheetOf, vertexWords, triangleWords}
+use Rattle.paper.specs.Sheet.{crossing, sheetOf, vertexWords, triangleWords}
 use Rattle.paper.specs.Tests.{judge, verdict}
 use Rattle.paper.specs.Room.{Work, Lengths, lengths, vertexRoom, triangleRoom}
-use Rattle.paper.specs.Build.{Lent, startOf, shapeTests, sampleTests, Builds}
+use Rattle.paper.specs.Build.{Lent, startOf, buildRule, sheetFrom, shapeTests, sampleTests, Builds}
 use Rattle.paper.specs.File.{fileWords, fileIndices, Writes, Reads}
 use Rattle.paper.specs.Check.{checked, Checks}
 use Rattle.codec.specs.Words.{Words, Bytes}
@@ -50,6 +53,8 @@ use Rattle.floats.specs.Sample.{none}
 use Rattle.floats.specs.Convert.{samplesOf, Converts}
 use Rattle.floats.proofs.Promises.{Singles, Exactly as SampleOf}
 use Rattle.floats.proofs.Promises as floats
+use Rattle.paper.proofs.Crossing.{WithinHalf}
+use Rattle.paper.proofs.Crossing as rounding
 use Rattle.paper.proofs.Agreement as agree
 use Rattle.paper.proofs.Passing.{sample-tests}
 use Rattle.paper.proofs.Fill as filling
@@ -78,15 +83,18 @@ pub one-read : {bs : List ℕ} {vs : List ℤ} {ts : List ℕ} {r r′ : Got} {u
     → Reads bs vs ts r us ss → Reads bs vs ts r′ us′ ss′ → (r ≡ r′) × (us ≡ us′) × (ss ≡ ss′)
 one-read = agree.reads-agree
 
-pub one-check : {L : Lattice} {s : Start} {bs : List ℕ} {before : Work} {r r′ : Verdict} {after after′ : Work}
-    → Checks L s bs before r after → Checks L s bs before r′ after′ → (r ≡ r′) × (after ≡ after′)
+pub one-check : {rule : Rule} {L : Lattice} {s : Start} {bs : List ℕ} {before : Work} {r r′ : Verdict} {after after′ : Work}
+    → Checks rule L s bs before r after → Checks rule L s bs before r′ after′ → (r ≡ r′) × (after ≡ after′)
 one-check = agree.checks-agree
+
+-- A sheet is that of a rule of rounding, document 02 (vi). What is said of sheets and files is said and proved once, of either rule
+-- (`rule`); a build follows one of them (`buildRule`), and a check is told which.
 
 -- ── 2. "A sheet is exactly the one that document 01 builds"; "files are written and read back without loss" ──
 
 -- a build that answers 0 leaves the sheet's records and triangles at the front of what it was lent, and counts them
 pub sheet-built : {L : Lattice} {s : Start} {before : Lent} {r : Built} {after : Lent} → Builds L s before r after → r .number ≡ 0
-    → let S = sheetOf L (startOf L s) in
+    → let S = sheetFrom L s in
     (r .vertices ≡ length (S .edges))
     × (r .triangles ≡ length (S .triangles))
     × (r .cubes ≡ S .visits)
@@ -108,41 +116,49 @@ read-written = trips.write-of-read
 
 -- ── 3. "accepts exactly when the file holds demand 2's vertices and triangles .. each once", and directed edges pair up ──
 
-module _ (L : Lattice) (s : Start) (bs : List ℕ) (n : Lengths) where
+module _ (rule : Rule) (L : Lattice) (s : Start) (bs : List ℕ) (n : Lengths) where
   -- a check answers 0 exactly when sizes, start, work room and layout pass and the file holds the sheet
-  pub accepted-exactly : Exactly L s bs n
-  accepted-exactly = exact.accepted-exactly L s bs n
+  pub accepted-exactly : Exactly rule L s bs n
+  accepted-exactly = exact.accepted-exactly rule L s bs n
 
   -- then each vertex and each triangle of the sheet is in the file once, and nothing else is
-  pub accepted-once : Acceptable L s bs n → EachOnce L (startOf L s) bs
-  accepted-once = exact.accepted-once L s bs n
+  pub accepted-once : Acceptable rule L s bs n → EachOnce rule L (startOf L s) bs
+  accepted-once = exact.accepted-once rule L s bs n
 
   -- "a directed triangle edge occurs once. Its reverse occurs once too, except .."; "Each side-changing tetrahedron edge of a visited cube
   -- carries exactly one vertex.": of every file that is accepted. "Outer face" is read as document 02 (iii) has it (`apart` in `Demand3`)
-  pub accepted-pairs : checked L s bs n ≡ verdict 0 0 → Demand3 L (startOf L s) (fileEdges bs) (fileCorners bs)
-  accepted-pairs = pairs.file L s bs n
+  pub accepted-pairs : checked rule L s bs n ≡ verdict 0 0 → Demand3 L (startOf L s) (fileEdges bs) (fileCorners bs)
+  accepted-pairs = pairs.file rule L s bs n
 
 -- and of every sheet
-pub sheet-pairs : (L : Lattice) (s : Start) (n : Lengths) → judge (sampleTests L s n) .number ≡ 0
-    → let S = sheetOf L (startOf L s) in Demand3 L (startOf L s) (S .edges) (S .triangles)
+pub sheet-pairs : (rule : Rule) (L : Lattice) (s : Start) (n : Lengths) → judge (sampleTests L s n) .number ≡ 0
+    → let S = sheetOf rule L (startOf L s) in Demand3 L (startOf L s) (S .edges) (S .triangles)
 sheet-pairs = pairs.sheet
 
--- what is built and written is accepted
+-- the sheet of a rule, written, is accepted under that rule
+pub sheet-accepted : (rule : Rule) (L : Lattice) (s : Start) (n : Lengths) → judge (sampleTests L s n) .number ≡ 0
+    → (old : List ℤ) (old′ bytes bytes′ : List ℕ) (w : Wrote)
+    → let S = sheetOf rule L (startOf L s) in
+    Writes (L .size) (length (S .edges)) (length (S .triangles)) (over (vertexWords S) old) (over (triangleWords S) old′) bytes w bytes′
+    → w .number ≡ 0 → checked rule L s (take (w .bytes) bytes′) n .number ≡ 0
+sheet-accepted = made.sheet-accepted
+
+-- so what is built and written is accepted under the rule that a build follows
 pub built-accepted : {L : Lattice} {s : Start} {before : Lent} {r : Built} {after : Lent} {bytes bytes′ : List ℕ} {w : Wrote}
     → Builds L s before r after → r .number ≡ 0
     → Writes (L .size) (r .vertices) (r .triangles) (after .vertices) (after .triangles) bytes w bytes′ → w .number ≡ 0
-    → (n : Lengths) → judge (sampleTests L s n) .number ≡ 0 → checked L s (take (w .bytes) bytes′) n .number ≡ 0
+    → (n : Lengths) → judge (sampleTests L s n) .number ≡ 0 → checked buildRule L s (take (w .bytes) bytes′) n .number ≡ 0
 built-accepted = made.built-accepted
 
 -- ── document 02 (iii): "−32768 is no sample" ──
 
 -- "Demands 2 and 3 read 'outer face' as any cube face that is not shared by two visitable cubes": where no sample is the fill, these are the
 -- outer faces of the lattice, and what was promised before holds as it was: of every sheet, and of every file that is accepted
-pub sheet-pairs-outer : (L : Lattice) (s : Start) (n : Lengths) → judge (sampleTests L s n) .number ≡ 0 → T (noFill L)
-    → let S = sheetOf L (startOf L s) in Demand3By (outer (L .size)) L (startOf L s) (S .edges) (S .triangles)
+pub sheet-pairs-outer : (rule : Rule) (L : Lattice) (s : Start) (n : Lengths) → judge (sampleTests L s n) .number ≡ 0 → T (noFill L)
+    → let S = sheetOf rule L (startOf L s) in Demand3By (outer (L .size)) L (startOf L s) (S .edges) (S .triangles)
 sheet-pairs-outer = pairs.sheet-outer
 
-pub accepted-pairs-outer : (L : Lattice) (s : Start) (bs : List ℕ) (n : Lengths) → checked L s bs n ≡ verdict 0 0 → T (noFill L)
+pub accepted-pairs-outer : (rule : Rule) (L : Lattice) (s : Start) (bs : List ℕ) (n : Lengths) → checked rule L s bs n ≡ verdict 0 0 → T (noFill L)
     → Demand3By (outer (L .size)) L (startOf L s) (fileEdges bs) (fileCorners bs)
 accepted-pairs-outer = pairs.file-outer
 
@@ -157,12 +173,12 @@ module _ (L : Lattice) (p : Place) (h : CubeIn (L .size) p) (c : ℕ) (l : c < 8
       → judge (shapeTests L (lengths (before .work))) .number ≡ 0 → r .number ≡ 5
   fill-build {before} b e = ap (λ (r : Built). r .number) (b .answer ∙ filling.fill-built L p h c l f before e)
 
-  pub fill-check : (n : Lengths) → judge (shapeTests L n) .number ≡ 0 → (bs : List ℕ) → checked L (Cube p) bs n ≡ verdict 5 0
+  pub fill-check : (n : Lengths) → judge (shapeTests L n) .number ≡ 0 → (rule : Rule) (bs : List ℕ) → checked rule L (Cube p) bs n ≡ verdict 5 0
   fill-check = filling.fill-checked L p h c l f
 
 -- "Pieces parted by fill may share a lattice edge; each has its own vertex there.": these two do
-pub pieces-share : (L : Lattice) × (j : ℕ) × (k : ℕ) × (e : ℕ) × Sharing L j k e
-pieces-share = (parted, 1, 2, 30, sharing)
+pub pieces-share : (rule : Rule) → (L : Lattice) × (j : ℕ) × (k : ℕ) × (e : ℕ) × Sharing rule L j k e
+pieces-share rule = (parted, 1, 2, 30, sharing rule)
 
 -- ── document 02 (iv): "A better start where none is named" ──
 
@@ -187,17 +203,43 @@ module _ (L : Lattice) where
   pub builds-lowest : {before : Lent} {r : Built} {after : Lent} → OldBuilds L before r after → Builds L Lowest before r after
   builds-lowest = starting.builds-old L
 
-  pub lowest-checks : {bs : List ℕ} {before : Work} {r : Verdict} {after : Work}
-      → Checks L Lowest bs before r after → OldChecks L bs before r after
+  pub lowest-checks : {rule : Rule} {bs : List ℕ} {before : Work} {r : Verdict} {after : Work}
+      → Checks rule L Lowest bs before r after → OldChecks rule L bs before r after
   lowest-checks = starting.old-checks L
 
-  pub checks-lowest : {bs : List ℕ} {before : Work} {r : Verdict} {after : Work}
-      → OldChecks L bs before r after → Checks L Lowest bs before r after
+  pub checks-lowest : {rule : Rule} {bs : List ℕ} {before : Work} {r : Verdict} {after : Work}
+      → OldChecks rule L bs before r after → Checks rule L Lowest bs before r after
   checks-lowest = starting.checks-old L
 
 -- "none of its six faces in the lattice's bounds": beyond each of them is a cube of the lattice
 pub inside-faces : (z : Sizes) (p : Place) → inside z p ≡ all (λ f. f .there && inLattice z (f .beyond)) (faces p)
 inside-faces = inside-joined
+
+-- ── document 02 (vi): "Nearest instead of down" ──
+
+-- of a solid sample p and an air sample q, each of 16 bits: −p and q − p are `natAbs (negℤ p)` and `natAbs (q -ℤ p)`
+module _ (p q : ℤ) (solid : air p ≡ false) (airy : air q ≡ true) where
+  -- "It is then within half a unit of the exact crossing": |2·t·(q − p) − 2·65,536·(−p)| is at most q − p
+  pub within-half : WithinHalf (65536 * natAbs (negℤ p)) (natAbs (q -ℤ p)) (crossing Nearest p q)
+  within-half = rounding.within-half p q solid airy
+
+  -- "and still short of the air end", by either rule
+  pub at-most-65534 : (rule : Rule) → mag p < 32768 → crossing rule p q ≤ 65534
+  at-most-65534 = rounding.at-most-65534 p q solid airy
+
+  -- "ties towards the solid end": no 16-bit samples have one
+  pub no-ties : mag p < 32768 → mag q < 32768 → (t : ℕ)
+      → 2 * (t * natAbs (q -ℤ p)) + natAbs (q -ℤ p) ≡ 2 * (65536 * natAbs (negℤ p)) → ⊥
+  no-ties = rounding.no-ties p q solid airy
+
+  -- so the nearest unit is the only one within half a unit
+  pub nearest-only : mag p < 32768 → mag q < 32768 → (t : ℕ)
+      → WithinHalf (65536 * natAbs (negℤ p)) (natAbs (q -ℤ p)) t → t ≡ crossing Nearest p q
+  nearest-only = rounding.nearest-only p q solid airy
+
+  -- where the two rules differ, nearest is one unit more
+  pub one-unit : (crossing Nearest p q ≡ crossing Down p q) ⊎ (crossing Nearest p q ≡ crossing Down p q + 1)
+  one-unit = rounding.one-unit p q solid airy
 
 -- ── document 02 (i): binary STL; the contracts are `StlWrites` and `StlReads` (stl/specs) ──
 

@@ -12,6 +12,7 @@ use Rattle.lists.proofs.Within.{T→false}
 use Rattle.paper.specs.declared.Built.{Built}
 use Rattle.paper.specs.declared.Verdict.{Verdict}
 use Rattle.paper.specs.declared.Start.the-variants.{Unnamed, Lowest}
+use Rattle.paper.specs.declared.Rule.{Rule}
 use Rattle.paper.specs.Lattice.{Lattice, cubes, crossed, lowest, mayStart}
 use Rattle.paper.specs.Tests.{Test, test, verdict, judge}
 use Rattle.paper.specs.Room.{Work, Lengths}
@@ -81,12 +82,12 @@ module _ (L : Lattice) where
   unfolding sampleTests startTests oldTests lowest oldStart buildNumber built lentAfter oldNumber
   builds-old b = record { answer = b .answer; left = b .left }
 
-  pub old-checks : {bs : List ℕ} {before : Work} {r : Verdict} {after : Work}
-      → Checks L Lowest bs before r after → OldChecks L bs before r after
+  pub old-checks : {rule : Rule} {bs : List ℕ} {before : Work} {r : Verdict} {after : Work}
+      → Checks rule L Lowest bs before r after → OldChecks rule L bs before r after
   unfolding sampleTests startTests oldTests lowest oldStart checked checkedAfter oldVerdict
   old-checks c = record { answer = c .answer; left = c .left }
 
-  pub checks-old : {bs : List ℕ} {before : Work} {r : Verdict} {after : Work}
-      → OldChecks L bs before r after → Checks L Lowest bs before r after
+  pub checks-old : {rule : Rule} {bs : List ℕ} {before : Work} {r : Verdict} {after : Work}
+      → OldChecks rule L bs before r after → Checks rule L Lowest bs before r after
   unfolding sampleTests startTests oldTests lowest oldStart checked checkedAfter oldVerdict
   checks-old c = record { answer = c .answer; left = c .left }

@@ -8,12 +8,13 @@ use lib.ListN.{length}
 use Rattle.lists.specs.Lists.{range, any, first}
 use Rattle.paper.specs.declared.Built.{Built}
 use Rattle.paper.specs.declared.Verdict.{Verdict}
+use Rattle.paper.specs.declared.Rule.{Rule}
 use Rattle.paper.specs.Lattice.{Lattice, cubes, cubeAt, crossed}
 use Rattle.paper.specs.Within.{CubeInside}
 use Rattle.paper.specs.Sheet.{sheetOf}
 use Rattle.paper.specs.Tests.{Test, test, judge}
 use Rattle.paper.specs.Room.{Work, Lengths, lengths, vertexRoom, triangleRoom, roomTests, workAfter}
-use Rattle.paper.specs.Build.{Lent, shapeTests, counts, counted, uncounted, leftAt}
+use Rattle.paper.specs.Build.{Lent, buildRule, shapeTests, counts, counted, uncounted, leftAt}
 use Rattle.paper.specs.File.{fileTests}
 use Rattle.paper.specs.Check.{sheetTests}
 
@@ -40,7 +41,7 @@ oldTests L n = shapeTests L n ++ test 4 true ∷ test 5 (any (crossed L) (range 
 -- a build then
 unfoldable pub oldNumber : Lattice → Lent → ℕ
 oldNumber L l =
-    let S = sheetOf L (oldStart L) in
+    let S = sheetOf buildRule L (oldStart L) in
     judge
     (oldTests L (lengths (l .work))
     ++ roomTests (length (S .edges)) (length (S .triangles)) (vertexRoom (l .vertices)) (triangleRoom (l .triangles)))
@@ -50,13 +51,13 @@ pub record OldBuilds (L : Lattice) (before : Lent) (r : Built) (after : Lent) : 
   pub answer :
       r
       ≡ (let n = oldNumber L before in
-      cond (counts n) (counted n (sheetOf L (oldStart L))) (uncounted n))
-  pub left : after ≡ leftAt (oldNumber L before) (sheetOf L (oldStart L)) (L .size) before
+      cond (counts n) (counted n (sheetOf buildRule L (oldStart L))) (uncounted n))
+  pub left : after ≡ leftAt (oldNumber L before) (sheetOf buildRule L (oldStart L)) (L .size) before
 
--- and a check
-unfoldable pub oldVerdict : Lattice → List ℕ → Lengths → Verdict
-oldVerdict L bs n = judge (oldTests L n ++ fileTests bs ++ sheetTests (L .size) (sheetOf L (oldStart L)) bs)
+-- and a check, under a rule
+unfoldable pub oldVerdict : Rule → Lattice → List ℕ → Lengths → Verdict
+oldVerdict rule L bs n = judge (oldTests L n ++ fileTests bs ++ sheetTests (L .size) (sheetOf rule L (oldStart L)) bs)
 
-pub record OldChecks (L : Lattice) (bs : List ℕ) (before : Work) (r : Verdict) (after : Work) : Type 0 where
-  pub answer : r ≡ oldVerdict L bs (lengths before)
-  pub left : after ≡ workAfter (oldVerdict L bs (lengths before) .number) (L .size) before
+pub record OldChecks (rule : Rule) (L : Lattice) (bs : List ℕ) (before : Work) (r : Verdict) (after : Work) : Type 0 where
+  pub answer : r ≡ oldVerdict rule L bs (lengths before)
+  pub left : after ≡ workAfter (oldVerdict rule L bs (lengths before) .number) (L .size) before

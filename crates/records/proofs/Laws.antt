@@ -13,6 +13,7 @@ use Rattle.lists.specs.Lists.{range, isIn}
 use Rattle.lists.proofs.Member.{T→eq, eq→T, and-left, and-right}
 use Rattle.lists.proofs.Runs.{along-snoc}
 use Rattle.lists.proofs.Stores.{stored-append, stored-length, stored-at}
+use Rattle.paper.specs.declared.Rule.{Rule}
 use Rattle.paper.specs.Lattice.{Lattice}
 use Rattle.paper.specs.Sheet.{vertexRecord}
 use Rattle.paper.specs.Room.{neededSlots}
@@ -22,7 +23,7 @@ use Rattle.records.specs.Records.{AllCross, edgeAt, goodRecord, goodEdge
 
 -- ── one record ──
 
-module _ (L : Lattice) (vs : List ℤ) (slots : List ℕ) (i : ℕ) where
+module _ (rule : Rule) (L : Lattice) (vs : List ℤ) (slots : List ℕ) (i : ℕ) where
   abbrev n : ℕ
   n = neededSlots (L .size)
 
@@ -30,47 +31,47 @@ module _ (L : Lattice) (vs : List ℤ) (slots : List ℕ) (i : ℕ) where
   e = edgeAt L vs i
 
   abbrev same : Bool
-  same = sameNumbers (recordOf vs i) (vertexRecord L e)
+  same = sameNumbers (recordOf vs i) (vertexRecord rule L e)
 
-  pub edge-out : e ≡ n → n ≡ goodEdge L vs slots i
+  pub edge-out : e ≡ n → n ≡ goodEdge rule L vs slots i
   unfolding goodEdge goodRecord
   edge-out q = rw (le-ltb e n (omega arith))
 
-  pub edge-idle : getD slots e 0 ≡ 0 → n ≡ goodEdge L vs slots i
+  pub edge-idle : getD slots e 0 ≡ 0 → n ≡ goodEdge rule L vs slots i
   unfolding goodEdge goodRecord used
   edge-idle q = rw (eq-eqb (getD slots e 0) 0 q, and-false)
 
-  pub edge-wrong : same ≡ false → n ≡ goodEdge L vs slots i
+  pub edge-wrong : same ≡ false → n ≡ goodEdge rule L vs slots i
   unfolding goodEdge goodRecord
   edge-wrong q = rw (q, and-false)
 
-  pub edge-right : e < n → (getD slots e 0 ≡ 0 → ⊥) → same ≡ true → e ≡ goodEdge L vs slots i
+  pub edge-right : e < n → (getD slots e 0 ≡ 0 → ⊥) → same ≡ true → e ≡ goodEdge rule L vs slots i
   unfolding goodEdge goodRecord used
   edge-right h u q = rw (lt-ltb e n h, ne-eqb (getD slots e 0) 0 u, q)
 
   -- what the edge tells
-  good-below : T (goodRecord L vs slots i) → e < n
+  good-below : T (goodRecord rule L vs slots i) → e < n
   unfolding goodRecord
   good-below t = ltb-true e n (T→eq (ltb e n) (and-left (ltb e n) (used slots e) (and-left (ltb e n && used slots e) same t)))
 
-  pub record-bad : goodEdge L vs slots i ≡ n → goodRecord L vs slots i ≡ false
+  pub record-bad : goodEdge rule L vs slots i ≡ n → goodRecord rule L vs slots i ≡ false
   unfolding goodEdge
-  record-bad q = go (goodRecord L vs slots i) refl q
+  record-bad q = go (goodRecord rule L vs slots i) refl q
     where
-      go : (b : Bool) → goodRecord L vs slots i ≡ b → cond b e n ≡ n → b ≡ false
+      go : (b : Bool) → goodRecord rule L vs slots i ≡ b → cond b e n ≡ n → b ≡ false
       go true g q = absurd (omega (arith, good-below (eq→T g)))
       go false g q = refl
 
   pub record Found : Type 0 where
-    pub good : goodRecord L vs slots i ≡ true
-    pub is : goodEdge L vs slots i ≡ e
-    pub below : goodEdge L vs slots i < n
+    pub good : goodRecord rule L vs slots i ≡ true
+    pub is : goodEdge rule L vs slots i ≡ e
+    pub below : goodEdge rule L vs slots i < n
 
-  pub record-good : (goodEdge L vs slots i ≡ n → ⊥) → Found
+  pub record-good : (goodEdge rule L vs slots i ≡ n → ⊥) → Found
   unfolding goodEdge
-  record-good q = go (goodRecord L vs slots i) refl
+  record-good q = go (goodRecord rule L vs slots i) refl
     where
-      go : (b : Bool) → goodRecord L vs slots i ≡ b → Found
+      go : (b : Bool) → goodRecord rule L vs slots i ≡ b → Found
       go true g = record {
         good = g;
         is = ap (λ (b : Bool). cond b e n) g;

@@ -17,6 +17,7 @@ use Rattle.lists.proofs.Within.{members, below as run-below}
 use Rattle.lists.proofs.Stores.{stored-rest}
 use Rattle.lists.proofs.Closure.{bool-same}
 use Rattle.lists.proofs.Firsts.{first-before}
+use Rattle.paper.specs.declared.Rule.{Rule}
 use Rattle.paper.specs.Lattice.{Lattice}
 use Rattle.paper.specs.Sheet.{Sheet, vertexRecord}
 use Rattle.paper.specs.Room.{neededSlots}
@@ -55,7 +56,7 @@ along-in f i (suc n) j h g = go (eqb j i) refl (λ l. along-in f (suc i) n j l (
     go true e r = or-left (eqb (f j) (f i)) (isIn (map f (range (suc i) n)) (f j)) (subst (λ (k : ℕ). T (eqb (f j) (f k))) (eqb→eq j i (eq→T e)) (eqb-refl (f j)))
     go false e r = or-right (eqb (f j) (f i)) (isIn (map f (range (suc i) n)) (f j)) (r (lt-of-le-ne h (λ q. eqb-false j i e (sym q))))
 
-module _ (L : Lattice) (S : Sheet) (are : S .records ≡ map (vertexRecord L) (S .edges)) (vs : List ℤ) (slots : List ℕ)
+module _ (rule : Rule) (L : Lattice) (S : Sheet) (are : S .records ≡ map (vertexRecord rule L) (S .edges)) (vs : List ℤ) (slots : List ℕ)
     (used-are : (e : ℕ) → e < neededSlots (L .size) → used slots e ≡ isIn (S .edges) e)
     (below : All (λ e. e < neededSlots (L .size)) (S .edges)) (long : neededSlots (L .size) ≤ length slots) where
   abbrev n : ℕ
@@ -71,7 +72,7 @@ module _ (L : Lattice) (S : Sheet) (are : S .records ≡ map (vertexRecord L) (S
     e = edgeAt L vs i
 
     abbrev found : Bool
-    found = any (λ e. sameNumbers (recordOf vs i) (vertexRecord L e)) (S .edges)
+    found = any (λ e. sameNumbers (recordOf vs i) (vertexRecord rule L e)) (S .edges)
 
     abbrev earlier : Bool
     earlier = any (λ j. sameNumber (edgeOf vs j) (edgeOf vs i)) (range 0 i)
@@ -97,39 +98,39 @@ module _ (L : Lattice) (S : Sheet) (are : S .records ≡ map (vertexRecord L) (S
     unfolding edgeAt
     at-edge k q h = ap (λ (z : ℤ). edgeIn z n) q ∙ edge-in k n h
 
-    good-sound : T (goodRecord L vs (slotsAfter L vs slots i) i) → T (found && not earlier)
+    good-sound : T (goodRecord rule L vs (slotsAfter L vs slots i) i) → T (found && not earlier)
     unfolding goodRecord
     good-sound t =
-        let p = and3 (ltb e n) (used (slotsAfter L vs slots i) e) (sameNumbers (recordOf vs i) (vertexRecord L e)) t in
+        let p = and3 (ltb e n) (used (slotsAfter L vs slots i) e) (sameNumbers (recordOf vs i) (vertexRecord rule L e)) t in
         let h = ltb-true e n (T→eq (ltb e n) (p .0)) in
         let u = subst T (slot-is i e h) (p .1) in
         and-both found (not earlier)
-        (in-any (λ e. sameNumbers (recordOf vs i) (vertexRecord L e)) (S .edges) e (and-right (not (isIn (edgesTo L vs i) e)) (isIn (S .edges) e) u) (p .2))
+        (in-any (λ e. sameNumbers (recordOf vs i) (vertexRecord rule L e)) (S .edges) e (and-right (not (isIn (edgesTo L vs i) e)) (isIn (S .edges) e) u) (p .2))
         (not-T earlier (λ a. T-not (isIn (edgesTo L vs i) e) (and-left (not (isIn (edgesTo L vs i) e)) (isIn (S .edges) e) u) (told a)))
 
-    good-full : T (found && not earlier) → T (goodRecord L vs (slotsAfter L vs slots i) i)
+    good-full : T (found && not earlier) → T (goodRecord rule L vs (slotsAfter L vs slots i) i)
     unfolding goodRecord
     good-full t =
-        let w = any-in (λ e. sameNumbers (recordOf vs i) (vertexRecord L e)) (S .edges) (and-left found (not earlier) t) in
+        let w = any-in (λ e. sameNumbers (recordOf vs i) (vertexRecord rule L e)) (S .edges) (and-left found (not earlier) t) in
         let k = w .0 in
-        let q = record-edge L vs i k (same-numbers (recordOf vs i) (vertexRecord L k) (w .1 .1)) in
+        let q = record-edge rule L vs i k (same-numbers (recordOf vs i) (vertexRecord rule L k) (w .1 .1)) in
         let h : k < n = all-in (λ e. e < n) (S .edges) below k (w .1 .0) in
         let m : e ≡ k = at-edge k q h in
         let g : e < n = subst (λ (j : ℕ). j < n) (sym m) h in
-        both3 (ltb e n) (used (slotsAfter L vs slots i) e) (sameNumbers (recordOf vs i) (vertexRecord L e)) (eq→T (lt-ltb e n g))
+        both3 (ltb e n) (used (slotsAfter L vs slots i) e) (sameNumbers (recordOf vs i) (vertexRecord rule L e)) (eq→T (lt-ltb e n g))
         (subst T (sym (slot-is i e g))
         (and-both (not (isIn (edgesTo L vs i) e)) (isIn (S .edges) e)
         (not-T (isIn (edgesTo L vs i) e) (λ a. T-not earlier (and-right found (not earlier) t) (tells g (q ∙ ap pos (sym m)) a)))
         (subst (λ (j : ℕ). T (isIn (S .edges) j)) (sym m) (w .1 .0))))
-        (subst (λ (j : ℕ). T (sameNumbers (recordOf vs i) (vertexRecord L j))) (sym m) (w .1 .1))
+        (subst (λ (j : ℕ). T (sameNumbers (recordOf vs i) (vertexRecord rule L j))) (sym m) (w .1 .1))
 
     found-is : found ≡ any (sameNumbers (recordOf vs i)) (S .records)
-    found-is = sym (ap (any (sameNumbers (recordOf vs i))) are ∙ any-map (sameNumbers (recordOf vs i)) (vertexRecord L) (S .edges))
+    found-is = sym (ap (any (sameNumbers (recordOf vs i))) are ∙ any-map (sameNumbers (recordOf vs i)) (vertexRecord rule L) (S .edges))
 
-    pub bad-is : badIn L vs slots i ≡ badRecord S vs i
+    pub bad-is : badIn rule L vs slots i ≡ badRecord S vs i
     unfolding badIn badRecord
     bad-is =
-        ap not (bool-same (goodRecord L vs (slotsAfter L vs slots i) i) (found && not earlier) good-sound good-full)
+        ap not (bool-same (goodRecord rule L vs (slotsAfter L vs slots i) i) (found && not earlier) good-sound good-full)
         ∙ (swap found earlier ∙ ap (λ (b : Bool). not b || earlier) found-is)
       where
         swap : (a b : Bool) → not (a && not b) ≡ (not a || b)
@@ -138,28 +139,28 @@ module _ (L : Lattice) (S : Sheet) (are : S .records ≡ map (vertexRecord L) (S
         swap false b = refl
 
   -- so the first such is the one of test 17
-  pub first-bad-is : (nv : ℕ) → firstBadIn L vs slots nv ≡ first (badRecord S vs) nv (range 0 nv)
+  pub first-bad-is : (nv : ℕ) → firstBadIn rule L vs slots nv ≡ first (badRecord S vs) nv (range 0 nv)
   unfolding firstBadIn
   first-bad-is nv j = first (λ i. bad-is i j) nv (range 0 nv)
 
 -- ── before the first ──
 
-module _ (L : Lattice) (vs : List ℤ) (slots : List ℕ) (nv : ℕ) where
-  pub edge-below : (k : ℕ) → k < firstBadIn L vs slots nv → edgeAt L vs k < neededSlots (L .size)
+module _ (rule : Rule) (L : Lattice) (vs : List ℤ) (slots : List ℕ) (nv : ℕ) where
+  pub edge-below : (k : ℕ) → k < firstBadIn rule L vs slots nv → edgeAt L vs k < neededSlots (L .size)
   unfolding firstBadIn badIn goodRecord
   edge-below k h =
       let e = edgeAt L vs k in
       let n = neededSlots (L .size) in
       let l = slotsAfter L vs slots k in
-      let p = and3 (ltb e n) (used l e) (sameNumbers (recordOf vs k) (vertexRecord L e)) (eq→T {b = goodRecord L vs l k} (not-false (goodRecord L vs l k) (first-before (badIn L vs slots) nv k h))) in
+      let p = and3 (ltb e n) (used l e) (sameNumbers (recordOf vs k) (vertexRecord rule L e)) (eq→T {b = goodRecord rule L vs l k} (not-false (goodRecord rule L vs l k) (first-before (badIn rule L vs slots) nv k h))) in
       ltb-true e n (T→eq (ltb e n) (p .0))
 
 -- past the slots nothing changes
-pub first-rest : (L : Lattice) (vs : List ℤ) (slots : List ℕ) (nv : ℕ)
-    → drop (neededSlots (L .size)) (slotsAfter L vs slots (firstBadIn L vs slots nv)) ≡ drop (neededSlots (L .size)) slots
+pub first-rest : (rule : Rule) (L : Lattice) (vs : List ℤ) (slots : List ℕ) (nv : ℕ)
+    → drop (neededSlots (L .size)) (slotsAfter L vs slots (firstBadIn rule L vs slots nv)) ≡ drop (neededSlots (L .size)) slots
 unfolding slotsAfter edgesTo
-first-rest L vs slots nv =
+first-rest rule L vs slots nv =
     let n = neededSlots (L .size) in
-    let i = firstBadIn L vs slots nv in
+    let i = firstBadIn rule L vs slots nv in
     stored-rest 0 n (map (edgeAt L vs) (range 0 i)) slots
-    (all-map (λ e. e < n) (edgeAt L vs) (range 0 i) (members (range 0 i) (λ k m. edge-below L vs slots nv k (run-below i k m))))
+    (all-map (λ e. e < n) (edgeAt L vs) (range 0 i) (members (range 0 i) (λ k m. edge-below rule L vs slots nv k (run-below i k m))))

@@ -5,6 +5,7 @@ use Prim.Native.Nat.{ℕ, _/_, _%_, _<_}
 use lib.IntN.{ℤ, pos, negsuc}
 use lib.Dec.{T, ltb}
 use Rattle.lists.specs.Lists.{range, first, stored}
+use Rattle.paper.specs.declared.Rule.{Rule}
 use Rattle.paper.specs.Lattice.{Lattice, sampleAt}
 use Rattle.paper.specs.Sheet.{vertexRecord}
 use Rattle.paper.specs.Room.{neededSlots}
@@ -25,15 +26,15 @@ edgeIn (negsuc m) n = n
 unfoldable pub edgeAt : Lattice → List ℤ → ℕ → ℕ
 edgeAt L vs i = edgeIn (edgeOf vs i) (neededSlots (L .size))
 
--- record i is that of a vertex whose slot is used
-unfoldable pub goodRecord : Lattice → List ℤ → List ℕ → ℕ → Bool
-goodRecord L vs slots i =
+-- record i is, by a rule, that of a vertex whose slot is used
+unfoldable pub goodRecord : Rule → Lattice → List ℤ → List ℕ → ℕ → Bool
+goodRecord rule L vs slots i =
     let e = edgeAt L vs i in
-    ltb e (neededSlots (L .size)) && used slots e && sameNumbers (recordOf vs i) (vertexRecord L e)
+    ltb e (neededSlots (L .size)) && used slots e && sameNumbers (recordOf vs i) (vertexRecord rule L e)
 
 -- its edge, where it is
-unfoldable pub goodEdge : Lattice → List ℤ → List ℕ → ℕ → ℕ
-goodEdge L vs slots i = cond (goodRecord L vs slots i) (edgeAt L vs i) (neededSlots (L .size))
+unfoldable pub goodEdge : Rule → Lattice → List ℤ → List ℕ → ℕ → ℕ
+goodEdge rule L vs slots i = cond (goodRecord rule L vs slots i) (edgeAt L vs i) (neededSlots (L .size))
 
 -- the slots of the edges of a list become 0
 abbrev pub emptied : List ℕ → List ℕ → List ℕ
@@ -47,8 +48,8 @@ unfoldable pub slotsAfter : Lattice → List ℤ → List ℕ → ℕ → List �
 slotsAfter L vs slots i = emptied (edgesTo L vs i) slots
 
 -- record i is not that of a vertex, or an earlier record has its edge; the first such of nv, or nv
-unfoldable pub badIn : Lattice → List ℤ → List ℕ → ℕ → Bool
-badIn L vs slots i = not (goodRecord L vs (slotsAfter L vs slots i) i)
+unfoldable pub badIn : Rule → Lattice → List ℤ → List ℕ → ℕ → Bool
+badIn rule L vs slots i = not (goodRecord rule L vs (slotsAfter L vs slots i) i)
 
-unfoldable pub firstBadIn : Lattice → List ℤ → List ℕ → ℕ → ℕ
-firstBadIn L vs slots nv = first (badIn L vs slots) nv (range 0 nv)
+unfoldable pub firstBadIn : Rule → Lattice → List ℤ → List ℕ → ℕ → ℕ
+firstBadIn rule L vs slots nv = first (badIn rule L vs slots) nv (range 0 nv)

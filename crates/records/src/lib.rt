@@ -1,6 +1,7 @@
 // Test 17: the vertex records of a file, one by one, against the slots of the sheet's vertices.
 use crossing::Vertex;
 use paper::Place;
+use paper::Rule;
 use paper::Sizes;
 ghost use mathlib.Core.Path.{_≡_};
 ghost use Prim.Native.Nat.{_*_, _/_, _≤_, _<_};
@@ -66,11 +67,18 @@ fn same_record(bytes: &[u8], i: usize, v: Vertex) -> bool
     same_word(bytes, at + 3, v.z)
 }
 
-// The edge of record i, where its slot is used and the record is its vertex's; else 7 × samples.
-fn good_edge(samples: &[i16], sizes: Sizes, bytes: &[u8], slots: &[u32], i: usize) -> usize
+// The edge of record i, where its slot is used and the record is its vertex's by a rule; else 7 × samples.
+fn good_edge(
+    rule: Rule,
+    samples: &[i16],
+    sizes: Sizes,
+    bytes: &[u8],
+    slots: &[u32],
+    i: usize,
+) -> usize
     requires { ⌜ Full (lattice sizes (now samples)) × Ranged (now bytes) × (i < fileV (now bytes)) ⌝ }
     requires { ⌜ AllCross (lattice sizes (now samples)) (now slots) × (neededSlots sizes ≤ length (now slots)) ⌝ }
-    ensures { λ r. ⌜ r ≡ goodEdge (lattice sizes (now (samples .entry))) (fileVertices (now (bytes .entry))) (now (slots .entry)) i ⌝ }
+    ensures { λ r. ⌜ r ≡ goodEdge rule (lattice sizes (now (samples .entry))) (fileVertices (now (bytes .entry))) (now (slots .entry)) i ⌝ }
 {
     let n = 7 * lattice::sample_count(sizes);
     let e = edge_in(layout::record_word(bytes, 4 * i), n);
@@ -81,7 +89,7 @@ fn good_edge(samples: &[i16], sizes: Sizes, bytes: &[u8], slots: &[u32], i: usiz
         return n;
     }
     let p = anchor_of(sizes, e);
-    let v = crossing::vertex_on(samples, sizes, p, e % 7);
+    let v = crossing::vertex_on(rule, samples, sizes, p, e % 7);
     let good = same_record(bytes, i, v);
     if !good {
         return n;
@@ -89,17 +97,27 @@ fn good_edge(samples: &[i16], sizes: Sizes, bytes: &[u8], slots: &[u32], i: usiz
     e
 }
 
-// The first record that is not that of a vertex, or whose edge an earlier record has, or V; the slots of the edges before it become 0.
-pub fn first_bad(samples: &[i16], sizes: Sizes, bytes: &[u8], slots: &mut [u32]) -> usize
+// The first record that is not, by a rule, that of a vertex, or whose edge an earlier record has, or V; the slots of the edges before it become 0.
+pub fn first_bad(
+    rule: Rule,
+    samples: &[i16],
+    sizes: Sizes,
+    bytes: &[u8],
+    slots: &mut [u32],
+) -> usize
     requires { ⌜ Full (lattice sizes (now samples)) × Ranged (now bytes) ⌝ }
     requires { ⌜ AllCross (lattice sizes (now samples)) (now slots) × (neededSlots sizes ≤ length (now slots)) ⌝ }
-    ensures { λ r. ⌜ (r ≡ firstBadIn (lattice sizes (now (samples .entry))) (fileVertices (now (bytes .entry))) (now (slots .entry)) (fileV (now (bytes .entry)))) × (now (slots .exit) ≡ slotsAfter (lattice sizes (now (samples .entry))) (fileVertices (now (bytes .entry))) (now (slots .entry)) r) ⌝ }
+    ensures { λ r.
+        let L = lattice sizes (now (samples .entry)) in
+        let vs = fileVertices (now (bytes .entry)) in
+        let first = firstBadIn rule L vs (now (slots .entry)) (fileV (now (bytes .entry))) in
+        ⌜ (r ≡ first) × (now (slots .exit) ≡ slotsAfter L vs (now (slots .entry)) r) ⌝ }
 {
     let n = 7 * lattice::sample_count(sizes);
     let nv = layout::vertex_count(bytes);
     let mut i = 0;
     while i < nv {
-        let e = good_edge(samples, sizes, bytes, slots, i);
+        let e = good_edge(rule, samples, sizes, bytes, slots, i);
         if e == n {
             return i;
         }

@@ -14,7 +14,7 @@ use Rattle.paper.specs.Lattice.{Lattice}
 use Rattle.paper.specs.Sheet.{Sheet, sheetOf, vertexWords, triangleWords}
 use Rattle.paper.specs.Tests.{Test, judge}
 use Rattle.paper.specs.Room.{lengths, vertexRoom, triangleRoom, roomTests, clears, clean, outputAfter}
-use Rattle.paper.specs.Build.{Lent, lent, startOf, sampleTests, buildNumber, counts, counted, uncounted, leftAt, lentAfter, Builds}
+use Rattle.paper.specs.Build.{Lent, lent, startOf, buildRule, sheetFrom, sampleTests, buildNumber, counts, counted, uncounted, leftAt, lentAfter, Builds}
 use Rattle.paper.proofs.Judged.{judge-past, judge-stop}
 use Rattle.paper.proofs.Passing.{sample-numbered, sample-counts, sample-keeps, room-counts, room-clears, built-at, work-kept, work-cleared}
 use Rattle.sheet.specs.Output.{roomNumber, BuildsFrom}
@@ -27,7 +27,7 @@ module _ (L : Lattice) (s : Start) (l : Lent) where
   tests = sampleTests L s (lengths (l .work))
 
   abbrev S : Sheet
-  S = sheetOf L (startOf L s)
+  S = sheetFrom L s
 
   abbrev room : List Test
   room = roomTests (length (S .edges)) (length (S .triangles)) (vertexRoom (l .vertices)) (triangleRoom (l .triangles))
@@ -72,9 +72,9 @@ module _ (L : Lattice) (s : Start) (l : Lent) where
         let v = triangleRoom (l .triangles) in
         let f = work-cleared n z (l .work) (room-clears nv nt u v) in
         record {
-          answer = b .answer ∙ (ap (λ (k : ℕ). let S = sheetOf L k in counted (roomNumber S l) S) is ∙ sym (built-at L s l n true c (room-counts nv nt u v)));
+          answer = b .answer ∙ (ap (λ (k : ℕ). let S = sheetOf buildRule L k in counted (roomNumber S l) S) is ∙ sym (built-at L s l n true c (room-counts nv nt u v)));
           left =
               b .left
-              ∙ (ap (λ (k : ℕ). let S = sheetOf L k in let n = roomNumber S l in lent (outputAfter n (vertexWords S) (l .vertices)) (outputAfter n (triangleWords S) (l .triangles)) (clean z (l .work))) is
+              ∙ (ap (λ (k : ℕ). let S = sheetOf buildRule L k in let n = roomNumber S l in lent (outputAfter n (vertexWords S) (l .vertices)) (outputAfter n (triangleWords S) (l .triangles)) (clean z (l .work))) is
               ∙ ((λ i. lent (outputAfter n (vertexWords S) (l .vertices)) (outputAfter n (triangleWords S) (l .triangles)) (sym f i)) ∙ sym (left-at n c)));
         }

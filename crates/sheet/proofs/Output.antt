@@ -12,7 +12,7 @@ use Rattle.paper.specs.Lattice.{Lattice, visited}
 use Rattle.paper.specs.Sheet.{Sheet, vertexRecord, sheetOf, vertexWords, triangleWords}
 use Rattle.paper.specs.Tests.{judge}
 use Rattle.paper.specs.Room.{Work, work, needed, neededSlots, vertexRoom, triangleRoom, roomTests, clean, outputAfter}
-use Rattle.paper.specs.Build.{Lent, lent}
+use Rattle.paper.specs.Build.{Lent, lent, buildRule}
 use Rattle.paper.specs.Within.{Full}
 use Rattle.paper.proofs.Passing.{room-tests}
 use Rattle.paper.proofs.Listing.{parts, vertex-words-length}
@@ -28,7 +28,7 @@ use Rattle.sheet.specs.Output.{Output, output, Fits, Puts, roomNumber, B
 
 module _ (L : Lattice) (full : Full L) (rows vis : List ℕ) (k : ℕ) (s : Stands L k rows vis) where
   abbrev S : Sheet
-  S = sheetOf L k
+  S = sheetOf buildRule L k
 
   abbrev drawn : List ℕ
   drawn = edgesBy (L .size) rows vis
@@ -37,13 +37,13 @@ module _ (L : Lattice) (full : Full L) (rows vis : List ℕ) (k : ℕ) (s : Stan
   crossed = edges-crossed L (full .sized) k rows vis (s .sides) (s .cubes)
 
   pub edges-length : length drawn ≡ length (S .edges)
-  edges-length = ap length (edges-by L (full .sized) k rows vis (s .sides) (s .cubes))
+  edges-length = ap length (edges-by L (full .sized) k rows vis (s .sides) (s .cubes) buildRule)
 
   pub vertices-are : (l : List ℤ) → 4 * length (S .edges) ≤ length l
-      → sets l (4 * (0 - 0)) (each (vertexRecord L) drawn) ≡ over (vertexWords S) l
+      → sets l (4 * (0 - 0)) (each (vertexRecord buildRule L) drawn) ≡ over (vertexWords S) l
   vertices-are l h =
-      ap (λ (r : List ℤ). sets l 0 r) (records-are L (full .sized) k rows vis (s .sides) (s .cubes))
-      ∙ sets-front l (vertexWords S) (omega (arith, vertex-words-length L k))
+      ap (λ (r : List ℤ). sets l 0 r) (records-are L (full .sized) k rows vis (s .sides) (s .cubes) buildRule)
+      ∙ sets-front l (vertexWords S) (omega (arith, vertex-words-length buildRule L k))
 
   pub past-slots : (slots : List ℕ) → Beyond (neededSlots (L .size)) slots (numbered 0 drawn slots)
   past-slots = slots-beyond L (full .sized) k rows vis (s .sides) (s .cubes) 0
@@ -56,20 +56,21 @@ module _ (L : Lattice) (full : Full L) (rows vis : List ℕ) (k : ℕ) (s : Stan
 
     pub triangles-are : tiled ≡ triangleWords S
     triangles-are =
-        tiles-by L k rows vis (s .sides) (s .cubes) (source table counts slots′) made (full .sized)
-        (λ n t. ap (λ (l : List ℕ). getD l n 0) e ∙ slots-rank L (full .sized) k rows vis (s .sides) (s .cubes) slots room n t)
+        tiles-by L k rows vis (s .sides) (s .cubes) (source table counts slots′) made buildRule (full .sized)
+        (λ n t. ap (λ (l : List ℕ). getD l n 0) e ∙ slots-rank L (full .sized) k rows vis (s .sides) (s .cubes) buildRule slots room n t)
 
     pub triangles-length : length tiled ≡ 3 * length (S .triangles)
-    triangles-length = tiles-length L k rows vis (s .sides) (s .cubes) (source table counts slots′) made
+    triangles-length = tiles-length L k rows vis (s .sides) (s .cubes) (source table counts slots′) made buildRule
 
 -- ── tests 6 and 7 ──
 
 module _ (L : Lattice) (rows vis : List ℕ) (c : Counts) (counts : Counted (L .size) rows vis c) where
   -- the counts are the sheet's
-  counts-are : (k : ℕ) → Stands L k rows vis → c ≡ record { vertices = length (sheetOf L k .edges); triangles = length (sheetOf L k .triangles) }
+  counts-are : (k : ℕ) → Stands L k rows vis
+      → c ≡ record { vertices = length (sheetOf buildRule L k .edges); triangles = length (sheetOf buildRule L k .triangles) }
   counts-are k s =
-      let v = counts .vertices (L .values) k (s .sides) (s .cubes) in
-      let t = counts .triangles (L .values) k (s .sides) (s .cubes) in
+      let v = counts .vertices buildRule (L .values) k (s .sides) (s .cubes) in
+      let t = counts .triangles buildRule (L .values) k (s .sides) (s .cubes) in
       λ i. record { vertices = v i; triangles = t i }
 
   pub fits : (n vertices triangles : ℕ) → n ≡ judge (roomTests (c .vertices) (c .triangles) (vertices / 4) (triangles / 3)) .number
@@ -77,8 +78,8 @@ module _ (L : Lattice) (rows vis : List ℕ) (c : Counts) (counts : Counted (L .
   fits n vertices triangles e z =
       let r = room-tests (c .vertices) (c .triangles) (vertices / 4) (triangles / 3) (sym e ∙ z) in
       record {
-        vertex-room = λ k s. omega (arith, r .0, counts .vertices (L .values) k (s .sides) (s .cubes));
-        triangle-room = λ k s. omega (arith, r .1, counts .triangles (L .values) k (s .sides) (s .cubes));
+        vertex-room = λ k s. omega (arith, r .0, counts .vertices buildRule (L .values) k (s .sides) (s .cubes));
+        triangle-room = λ k s. omega (arith, r .1, counts .triangles buildRule (L .values) k (s .sides) (s .cubes));
       }
 
   -- ── the answer, and what is left ──
@@ -86,7 +87,7 @@ module _ (L : Lattice) (rows vis : List ℕ) (c : Counts) (counts : Counted (L .
   module _ (k : ℕ) (s : Stands L k rows vis) (l : Lent) (visits n : ℕ) (seen : visits ≡ length (visited L k))
       (e : n ≡ judge (roomTests (c .vertices) (c .triangles) (vertexRoom (l .vertices)) (triangleRoom (l .triangles))) .number) where
     abbrev T′ : Sheet
-    T′ = sheetOf L k
+    T′ = sheetOf buildRule L k
 
     number-is : n ≡ roomNumber T′ l
     number-is =
@@ -103,7 +104,7 @@ module _ (L : Lattice) (rows vis : List ℕ) (c : Counts) (counts : Counted (L .
         let v = p .vertices ∙ ap (λ (n : ℕ). outputAfter n (vertexWords T′) (l .vertices)) number-is in
         let t = p .triangles ∙ ap (λ (n : ℕ). outputAfter n (triangleWords T′) (l .triangles)) number-is in
         let f = clear ∙ (λ i. work (cleared (needed (L .size)) (l .work .words)) (q i) (r i)) in
-        let seen′ = seen ∙ sym (parts L k .visits) in
+        let seen′ = seen ∙ sym (parts buildRule L k .visits) in
         record {
           answer = λ i. let d = counts-are k s i in record { number = number-is i; vertices = d .vertices; triangles = d .triangles; cubes = seen′ i };
           left = λ i. lent (v i) (t i) (f i);

@@ -1,5 +1,6 @@
-// Building one sheet.
+// Building one sheet, each t to the nearest unit.
 use paper::Built;
+use paper::Rule;
 use paper::Sizes;
 use paper::Start;
 use tally::Counts;
@@ -58,7 +59,7 @@ fn put_sheet(
     let mut table = [0u16; 9216];
     let mut counts = [0usize; 256];
     patterns::pattern_table(sizes, &mut table[..], &mut counts[..]);
-    dots::put_vertices(samples, sizes, rows, vis, slots, vertices);
+    dots::put_vertices(Rule::Nearest, samples, sizes, rows, vis, slots, vertices);
     tiles::put_triangles(&table[..], &counts[..], slots, rows, vis, sizes, triangles);
 }
 

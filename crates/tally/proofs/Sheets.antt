@@ -12,6 +12,7 @@ use Rattle.lists.specs.Lists.{range, count, each, isIn}
 use Rattle.lists.proofs.Member.{T→eq, and-left}
 use Rattle.lists.proofs.Within.{T→false}
 use Rattle.paper.specs.declared.Sizes.{Sizes}
+use Rattle.paper.specs.declared.Rule.{Rule}
 use Rattle.paper.specs.Lattice.{Lattice, place, samples, sampleNo, cubes, cubeNo, inLattice, visited}
 use Rattle.paper.specs.Sheet.{weight, cubeEdges, cubeTriangles, vertexEdges, numbered, sheetOf}
 use Rattle.paper.specs.Within.{Sized}
@@ -82,16 +83,16 @@ module _ (L : Lattice) (sized : Sized (L .size)) (rows vis : List ℕ) (start : 
       (sides-around L rows y z sides hy hz) (cubes-around n vs vis y z visits hy hz)
       ∙ ap (λ (a : ℕ). count has (range a (7 * n .nx))) e
 
-  pub vertices-are : total (layerVertices n rows vis) (n .nz) ≡ length (sheetOf L start .edges)
+  pub vertices-are : (rule : Rule) → total (layerVertices n rows vis) (n .nz) ≡ length (sheetOf rule L start .edges)
   unfolding layerVertices vertexEdges samples
-  vertices-are =
+  vertices-are rule =
       let f : ℕ → ℕ = λ k. count has (range (7 * n .nx * k) (7 * n .nx)) in
       let e : 7 * n .nx * (n .ny * n .nz) ≡ 7 * (n .nx * (n .ny * n .nz)) = mul-assoc 7 (n .nx) (n .ny * n .nz) in
       total-ext (layerVertices n rows vis) (λ z. total (λ y. f (y + n .ny * z)) (n .ny)) (n .nz)
       (λ z hz. total-ext (verticesBy n rows vis z) (λ y. f (y + n .ny * z)) (n .ny) (λ y hy. in-row z y hz hy))
       ∙ (sym (total-rows f (n .ny) (n .nz))
       ∙ (sym (count-rows has (7 * n .nx) (n .ny * n .nz))
-      ∙ (ap (λ (m : ℕ). count has (range 0 m)) e ∙ sym (ap length (parts L start .edges)))))
+      ∙ (ap (λ (m : ℕ). count has (range 0 m)) e ∙ sym (ap length (parts rule L start .edges)))))
 
   -- ── triangles ──
 
@@ -146,10 +147,10 @@ module _ (L : Lattice) (sized : Sized (L .size)) (rows vis : List ℕ) (start : 
   unfolding layerTriangles trianglesBy
   last-layer z h = total-zero (trianglesBy n rows vis z) (n .ny) (λ y l. none-past-z n rows (cubesAround n vis y z .a) z y h)
 
-  pub triangles-are : total (layerTriangles n rows vis) (n .nz) ≡ length (sheetOf L start .triangles)
+  pub triangles-are : (rule : Rule) → total (layerTriangles n rows vis) (n .nz) ≡ length (sheetOf rule L start .triangles)
   unfolding cubes
-  triangles-are =
-      let P = parts L start in
+  triangles-are rule =
+      let P = parts rule L start in
       let w = n .nx - 1 in
       let h = n .ny - 1 in
       let d = n .nz - 1 in
@@ -161,4 +162,4 @@ module _ (L : Lattice) (sized : Sized (L .size)) (rows vis : List ℕ) (start : 
       ∙ (sym (kept-total (isIn vs) (cubeTriangles L) (w * (h * d)))
       ∙ (sym (ap (λ (l : List ℕ). length (each (cubeTriangles L) l)) (visited-kept L start))
       ∙ (sym (ap length (P .by-edge))
-      ∙ (sym (length-map (sheetOf L start .byEdge) (numbered (sheetOf L start .edges))) ∙ sym (ap length (P .triangles)))))))))
+      ∙ (sym (length-map (sheetOf rule L start .byEdge) (numbered (sheetOf rule L start .edges))) ∙ sym (ap length (P .triangles)))))))))

@@ -8,6 +8,7 @@ use lib.IntN.{ℤ}
 use lib.ListN.{length}
 use Rattle.lists.specs.Lists.{range, count}
 use Rattle.paper.specs.declared.Sizes.{Sizes}
+use Rattle.paper.specs.declared.Rule.{Rule}
 use Rattle.paper.specs.Lattice.{lattice, visited}
 use Rattle.paper.specs.Sheet.{weight, sheetOf}
 use Rattle.bits.specs.Words.{total}
@@ -42,10 +43,10 @@ pub record Summed (f g : ℕ → ℕ) (a b k v t : ℕ) : Type 0 where
   pub few-vertices : v ≤ a * k
   pub few-triangles : t ≤ b * k
 
--- c has the numbers of vertices and triangles of document 01's sheet, of any lattice that has these rows of sides, and of any start from
--- which these are the visited cubes
+-- c has the numbers of vertices and triangles of document 01's sheet, by either rule, of any lattice that has these rows of sides, and
+-- of any start from which these are the visited cubes
 pub record Counted (n : Sizes) (rows vis : List ℕ) (c : Counts) : Type 0 where
-  pub vertices : (s : List ℤ) (start : ℕ) → let L = lattice n s in
-      HasRows L rows → HasCubes n (visited L start) vis → c .vertices ≡ length (sheetOf L start .edges)
-  pub triangles : (s : List ℤ) (start : ℕ) → let L = lattice n s in
-      HasRows L rows → HasCubes n (visited L start) vis → c .triangles ≡ length (sheetOf L start .triangles)
+  pub vertices : (rule : Rule) (s : List ℤ) (start : ℕ) → let L = lattice n s in
+      HasRows L rows → HasCubes n (visited L start) vis → c .vertices ≡ length (sheetOf rule L start .edges)
+  pub triangles : (rule : Rule) (s : List ℤ) (start : ℕ) → let L = lattice n s in
+      HasRows L rows → HasCubes n (visited L start) vis → c .triangles ≡ length (sheetOf rule L start .triangles)

@@ -13,6 +13,7 @@ use Rattle.lists.proofs.Runs.{range-rows}
 use Rattle.lists.proofs.Within.{map-each, each-each}
 use Rattle.paper.specs.declared.Sizes.{Sizes}
 use Rattle.paper.specs.declared.Place.{Place}
+use Rattle.paper.specs.declared.Rule.{Rule}
 use Rattle.paper.specs.Lattice.{Lattice, place, sampleNo, cubes, cubeNo, inLattice, visited}
 use Rattle.paper.specs.Tables.{Tri}
 use Rattle.paper.specs.Sheet.{corners3, cubeTriangles, numbered, sheetOf, triangleWords}
@@ -112,32 +113,32 @@ module _ (L : Lattice) (start : ℕ) (rows vis : List ℕ) (H : HasRows L rows) 
       ∙ (sym (each-keep tile (isIn (visited L start)) (range 0 (cubes n))) ∙ ap (each tile) (sym (visited-kept L start))))
 
   -- the numbers in the slots of the edges of the sheet's triangles
-  tiles-edges : tilesBy S (L .size) rows vis ≡ map slot (each corners3 (sheetOf L start .byEdge))
-  tiles-edges =
+  tiles-edges : (rule : Rule) → tilesBy S (L .size) rows vis ≡ map slot (each corners3 (sheetOf rule L start .byEdge))
+  tiles-edges rule =
       tiles-visited
       ∙ (sym (map-each slot (λ k. each corners3 (cubeTriangles L k)) (visited L start))
-      ∙ ap (map slot) (sym (each-each corners3 (cubeTriangles L) (visited L start)) ∙ ap (each corners3) (sym (parts L start .by-edge))))
+      ∙ ap (map slot) (sym (each-each corners3 (cubeTriangles L) (visited L start)) ∙ ap (each corners3) (sym (parts rule L start .by-edge))))
 
   -- three to a triangle
-  pub tiles-length : length (tilesBy S (L .size) rows vis) ≡ 3 * length (sheetOf L start .triangles)
-  tiles-length =
-      let ts = sheetOf L start .byEdge in
-      ap length tiles-edges
+  pub tiles-length : (rule : Rule) → length (tilesBy S (L .size) rows vis) ≡ 3 * length (sheetOf rule L start .triangles)
+  tiles-length rule =
+      let ts = sheetOf rule L start .byEdge in
+      ap length (tiles-edges rule)
       ∙ (length-map (each corners3 ts) slot
       ∙ (each-length corners3 3 (λ t. refl) ts
-      ∙ ap (λ (n : ℕ). 3 * n) (sym (ap length (parts L start .triangles) ∙ length-map ts (numbered (sheetOf L start .edges))))))
+      ∙ ap (λ (n : ℕ). 3 * n) (sym (ap length (parts rule L start .triangles) ∙ length-map ts (numbered (sheetOf rule L start .edges))))))
 
   -- where the slot of each edge of the sheet has the edge's rank, they are the sheet's triangles
-  pub tiles-by : Sized (L .size)
-      → ((e : ℕ) → T (isIn (sheetOf L start .edges) e) → getD (S .slots) e 0 ≡ rank (sheetOf L start .edges) e)
-      → tilesBy S (L .size) rows vis ≡ triangleWords (sheetOf L start)
+  pub tiles-by : (rule : Rule) → Sized (L .size)
+      → ((e : ℕ) → T (isIn (sheetOf rule L start .edges) e) → getD (S .slots) e 0 ≡ rank (sheetOf rule L start .edges) e)
+      → tilesBy S (L .size) rows vis ≡ triangleWords (sheetOf rule L start)
   unfolding triangleWords numbered
-  tiles-by s h =
-      let es = sheetOf L start .edges in
-      let ts = sheetOf L start .byEdge in
+  tiles-by rule s h =
+      let es = sheetOf rule L start .edges in
+      let ts = sheetOf rule L start .byEdge in
       let of : (t : Tri) → Among es t → map slot (corners3 t) ≡ corners3 (numbered es t) =
       λ t a i. h (t .a) (a .a) i ∷ h (t .b) (a .b) i ∷ h (t .c) (a .c) i ∷ [] in
-      tiles-edges
+      tiles-edges rule
       ∙ (map-each slot corners3 ts
-      ∙ (each-same (λ t. map slot (corners3 t)) (λ t. corners3 (numbered es t)) ts (all-weak (Among es) _ of ts (sheet-among L s start))
-      ∙ (sym (each-map corners3 (numbered es) ts) ∙ ap (each corners3) (sym (parts L start .triangles)))))
+      ∙ (each-same (λ t. map slot (corners3 t)) (λ t. corners3 (numbered es t)) ts (all-weak (Among es) _ of ts (sheet-among rule L s start))
+      ∙ (sym (each-map corners3 (numbered es) ts) ∙ ap (each corners3) (sym (parts rule L start .triangles)))))

@@ -19,6 +19,7 @@ use Rattle.lists.proofs.Within.{any-agree, below}
 use Rattle.lists.proofs.Runs.{any-snoc, any-first}
 use Rattle.lists.proofs.Firsts.{first-agree, first-before, first-holds}
 use Rattle.paper.specs.declared.Sizes.{Sizes}
+use Rattle.paper.specs.declared.Rule.{Rule}
 use Rattle.paper.specs.Lattice.{Lattice, cubes, cubeNo, visited}
 use Rattle.paper.specs.Tables.{Tri, tri}
 use Rattle.paper.specs.Sheet.{Sheet, sheetOf, cubeTriangles}
@@ -271,9 +272,9 @@ module _ (L : Lattice) (s : Sized (L .size)) (start : ℕ) (words : List ℕ)
       go true e = place-idle size words k t (words-are k (ltb-true k (cubes size) e) ∙ ap (λ (b : Bool). cond b (wordOf L k) 0) v)
       go false e = place-out size words k t (ltb-false k (cubes size) e)
 
-  pub in-sheet-is : (t : Tri) → ltb (placeOf size words t) 12 ≡ any (turned t) (sheetOf L start .byEdge)
+  pub in-sheet-is : (rule : Rule) (t : Tri) → ltb (placeOf size words t) 12 ≡ any (turned t) (sheetOf rule L start .byEdge)
   unfolding placeOf
-  in-sheet-is t = go (isIn (visited L start) (holder size t)) refl ∙ sym (in-sheet L s start t)
+  in-sheet-is rule t = go (isIn (visited L start) (holder size t)) refl ∙ sym (in-sheet rule L s start t)
     where
       go : (b : Bool) → isIn (visited L start) (holder size t) ≡ b
           → ltb (placeIn size words (holder size t) t) 12 ≡ (isIn (visited L start) (holder size t) && any (turned t) (cubeTriangles L (holder size t)))
@@ -281,12 +282,12 @@ module _ (L : Lattice) (s : Sized (L .size)) (start : ℕ) (words : List ℕ)
       go false e = no-places (holder size t) t e ∙ sym (ap (λ (b : Bool). b && any (turned t) (cubeTriangles L (holder size t))) e)
 
   -- so the first bad triangle is the one of test 18
-  pub first-bad-is : (vs : List ℤ) (ts seen : List ℕ) → cubes size ≤ length seen → ((k : ℕ) → k < cubes size → getD seen k 0 ≡ 0) → (nt : ℕ)
-      → firstBadIn size words vs ts seen nt ≡ first (badNaming (sheetOf L start) vs ts) nt (range 0 nt)
+  pub first-bad-is : (rule : Rule) (vs : List ℤ) (ts seen : List ℕ) → cubes size ≤ length seen → ((k : ℕ) → k < cubes size → getD seen k 0 ≡ 0) → (nt : ℕ)
+      → firstBadIn size words vs ts seen nt ≡ first (badNaming (sheetOf rule L start) vs ts) nt (range 0 nt)
   unfolding firstBadIn
-  first-bad-is vs ts seen long blank nt =
-      first-agree (badIn size words vs ts seen) (badNaming (sheetOf L start) vs ts) nt
-      (λ i l g. bad-is size words vs ts seen long blank (sheetOf L start) in-sheet-is i g)
+  first-bad-is rule vs ts seen long blank nt =
+      first-agree (badIn size words vs ts seen) (badNaming (sheetOf rule L start) vs ts) nt
+      (λ i l g. bad-is size words vs ts seen long blank (sheetOf rule L start) (in-sheet-is rule) i g)
 
 -- ── past the cubes nothing changes ──
 

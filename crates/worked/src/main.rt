@@ -1,8 +1,10 @@
-// Document 01's "Sheets worked by hand", each run through the entry points, one line an answer, in the document's order. The
-// stored run holds what document 01 says of them. Where it names no sample's value, air is 3 and solid is -1.
+// Document 01's "Sheets worked by hand", each run through the entry points, one line an answer, in the document's order, with t by both
+// rules of document 02 (vi) behind document 01's. The stored run holds what the documents say of them. Where they name no sample's value,
+// air is 3 and solid is -1.
 use paper::Built;
 use paper::Got;
 use paper::Place;
+use paper::Rule;
 use paper::Sizes;
 use paper::Start;
 use paper::Verdict;
@@ -135,13 +137,14 @@ fn build_listed(vertices: &mut [i32], triangles: &mut [u32]) -> Built {
     build(&samples, sized(2, 2, 2), Start::Lowest, vertices, triangles)
 }
 
-// A file against the listing's samples, in work room for just these.
-fn check_listed(bytes: &[u8]) -> Verdict {
+// A file, made under a rule, against the listing's samples, in work room for just these.
+fn check_listed(rule: Rule, bytes: &[u8]) -> Verdict {
     let samples = LISTED;
     let mut words = [0u16; 1];
     let mut waiting = [0u32; 1];
     let mut slots = [0u32; 56];
     checker::check(
+        rule,
         &samples,
         sized(2, 2, 2),
         Start::Lowest,
@@ -191,7 +194,15 @@ fn read_back(bytes: &[u8]) {
     say_sheet(&vertices, &triangles);
 }
 
-// Its file, written and read back.
+// Its file under each rule: 65,536 × 1 is divided by 4 with nothing left.
+fn check_both(bytes: &[u8]) {
+    text(b"its file, rounded down: ");
+    say_verdict(check_listed(Rule::Down, bytes));
+    text(b"its file, rounded to nearest: ");
+    say_verdict(check_listed(Rule::Nearest, bytes));
+}
+
+// Its file, written and read back, and checked.
 fn write_and_read(vertices: &[i32], triangles: &[u32]) {
     let mut bytes = [0u8; 84];
     let w = sheetfile::write(sized(2, 2, 2), 3, 1, vertices, triangles, &mut bytes);
@@ -199,6 +210,7 @@ fn write_and_read(vertices: &[i32], triangles: &[u32]) {
     say_wrote(w);
     say_trailer(&bytes);
     read_back(&bytes);
+    check_both(&bytes);
 }
 
 // "the listing above"
@@ -286,7 +298,7 @@ fn say_sample(v: i16) {
     signed(v as i32);
 }
 
-// "t for p, q"
+// "t for p, q", by document 01's rule
 fn t_for(p: i16, q: i16)
     requires { ⌜ (air p ≡ false) × (air q ≡ true) ⌝ }
 {
@@ -294,7 +306,7 @@ fn t_for(p: i16, q: i16)
     say_sample(p);
     text(b" and");
     say_sample(q);
-    say(b": ", crossing::crossing_of(p, q) as usize);
+    say(b": ", crossing::crossing_of(Rule::Down, p, q) as usize);
     text(b"\n");
 }
 
@@ -304,6 +316,32 @@ fn crossings() {
     t_for(-2, 1);
     t_for(-32768, 32767);
     t_for(-32768, 1);
+}
+
+// The same by both rules, document 02 (vi).
+fn t_both(p: i16, q: i16)
+    requires { ⌜ (air p ≡ false) × (air q ≡ true) ⌝ }
+{
+    text(b"t for");
+    say_sample(p);
+    text(b" and");
+    say_sample(q);
+    say(b": down ", crossing::crossing_of(Rule::Down, p, q) as usize);
+    say(
+        b", nearest ",
+        crossing::crossing_of(Rule::Nearest, p, q) as usize,
+    );
+    text(b"\n");
+}
+
+fn both_rules() {
+    t_both(0, 1);
+    t_both(-2, 1);
+    t_both(-3, 2);
+    t_both(-1, 5);
+    t_both(-1, 2);
+    t_both(-32767, 1);
+    t_both(-1, 32767);
 }
 
 // ── axes ──
@@ -347,7 +385,7 @@ fn short_file() {
     text(b"a file of 23 bytes: ");
     say_got(sheetfile::read(bytes, &mut vertices, &mut triangles));
     text(b"a file of 23 bytes: ");
-    say_verdict(check_listed(bytes));
+    say_verdict(check_listed(Rule::Nearest, bytes));
 }
 
 // "The listing's file", but with nt of these triangles, in bytes for just that file.
@@ -357,7 +395,7 @@ fn altered(with: &[u8], vertices: &[i32], triangles: &[u32], nt: usize, bytes: &
     text(b": ");
     say_wrote(sheetfile::write(sized(2, 2, 2), 3, nt, vertices, triangles, bytes));
     text(b", ");
-    say_verdict(check_listed(bytes));
+    say_verdict(check_listed(Rule::Nearest, bytes));
 }
 
 // "with triangle 2 0 1 .. with 1 0 2 .. with it twice .. with none"
@@ -384,6 +422,7 @@ fn main() {
     ends_air();
     all_zero();
     crossings();
+    both_rules();
     axis_limits();
     short_file();
     altered_files();

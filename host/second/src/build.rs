@@ -1,7 +1,7 @@
 //! Building into lent slices.
 
 use crate::lattice::{Lattice, Point};
-use crate::sheet::Sheet;
+use crate::sheet::{Rule, Sheet};
 
 /// Where a sheet starts (document 02 (iv)).
 #[derive(Clone, Copy, Debug, PartialEq, Eq)]
@@ -75,11 +75,16 @@ pub(crate) fn begin<'a>(volume: Volume<'a>, work: &Work) -> Result<(Lattice<'a>,
 }
 
 pub fn build(volume: Volume, vertices: &mut [i32], triangles: &mut [u32], work: &mut Work) -> Built {
+    build_under(Rule::Nearest, volume, vertices, triangles, work)
+}
+
+/// The same under a rule: what the archive holds was built under document 01's.
+pub fn build_under(rule: Rule, volume: Volume, vertices: &mut [i32], triangles: &mut [u32], work: &mut Work) -> Built {
     let (lattice, start) = match begin(volume, work) {
         Ok(begun) => begun,
         Err(number) => return Built { number, vertices: 0, triangles: 0, cubes: 0 },
     };
-    let sheet = Sheet::of(&lattice, start);
+    let sheet = Sheet::of(rule, &lattice, start);
     work.clear(&lattice);
     let number = if sheet.vertices.len() > vertices.len() / 4 {
         6

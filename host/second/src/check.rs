@@ -3,7 +3,7 @@
 use crate::build::{begin, Volume, Work};
 use crate::file::{parse, Content};
 use crate::lattice::Lattice;
-use crate::sheet::Sheet;
+use crate::sheet::{Rule, Sheet};
 use std::collections::{BTreeMap, BTreeSet, HashSet};
 
 #[derive(Clone, Copy, Debug, PartialEq, Eq)]
@@ -12,7 +12,8 @@ pub struct Verdict {
     pub place: usize,
 }
 
-pub fn check(volume: Volume, bytes: &[u8], work: &mut Work) -> Verdict {
+/// Of a file that was made under a rule.
+pub fn check(rule: Rule, volume: Volume, bytes: &[u8], work: &mut Work) -> Verdict {
     let (lattice, start) = match begin(volume, work) {
         Ok(begun) => begun,
         Err(number) => return Verdict { number, place: 0 },
@@ -25,7 +26,7 @@ pub fn check(volume: Volume, bytes: &[u8], work: &mut Work) -> Verdict {
         return Verdict { number: 16, place: 0 };
     }
     work.clear(&lattice);
-    compare(&lattice, &Sheet::of(&lattice, start), &content)
+    compare(&lattice, &Sheet::of(rule, &lattice, start), &content)
 }
 
 /// A triangle by edges, from the corner with the lowest: all turns of it are then one value.

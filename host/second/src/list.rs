@@ -1,7 +1,7 @@
 //! The listing's lines.
 
 use crate::build::{begin, Start, Volume, Work};
-use crate::sheet::Sheet;
+use crate::sheet::{Rule, Sheet};
 use std::fmt::Write;
 
 /// What the listing prints for a volume file, with room for any lattice to 64, from a start.
@@ -27,7 +27,7 @@ fn lines(file: &[u8], start: Start) -> Result<String, usize> {
     let (mut words, mut waiting, mut slots) = (vec![0; 64 * 64 * 64], vec![0; 64 * 64 * 64], vec![0; 7 * 64 * 64 * 64]);
     let work = Work { words: &mut words, waiting: &mut waiting, slots: &mut slots };
     let (lattice, first) = begin(Volume { sizes, start, samples: &samples }, &work)?;
-    let sheet = Sheet::of(&lattice, first);
+    let sheet = Sheet::of(Rule::Nearest, &lattice, first);
     let mut text = format!("{} {} {}\n", sheet.vertices.len(), sheet.triangles.len(), sheet.visited.len());
     for [edge, x, y, z] in sheet.records(&lattice) {
         let _ = writeln!(text, "v {edge} {x} {y} {z}");

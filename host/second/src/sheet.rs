@@ -67,16 +67,34 @@ impl Edge {
     }
 }
 
-/// t for a solid end value and an air end value.
-pub fn crossing(solid: i64, air: i64) -> i64 {
-    (65_536 * -solid).div_euclid(air - solid)
+/// How t is rounded (document 02 (vi)).
+#[derive(Clone, Copy, Debug, Default, PartialEq, Eq)]
+pub enum Rule {
+    /// Down, as document 01 has it.
+    Down,
+    /// To the nearest unit, ties towards the solid end: what a build makes.
+    #[default]
+    Nearest,
+}
+
+/// t for a solid end value and an air end value: of all units the last that is not beyond the exact crossing, or the first of
+/// those that no other is nearer than.
+pub fn crossing(rule: Rule, solid: i64, air: i64) -> i64 {
+    let exact = 65_536 * -solid;
+    let below = exact.div_euclid(air - solid);
+    let away = |t: i64| (t * (air - solid) - exact).abs();
+    match rule {
+        Rule::Down => below,
+        Rule::Nearest if away(below + 1) < away(below) => below + 1,
+        Rule::Nearest => below,
+    }
 }
 
 /// Where the sheet crosses an edge whose ends are on different sides.
-fn position(lattice: &Lattice, edge: Edge) -> [i64; 3] {
+fn position(rule: Rule, lattice: &Lattice, edge: Edge) -> [i64; 3] {
     let [p, q] = KINDS[edge.kind as usize].map(|(x, y, z)| edge.anchor.plus(Point::new(x, y, z)));
     let (solid, air) = if lattice.air(p) { (q, p) } else { (p, q) };
-    let t = crossing(lattice.sample(solid), lattice.sample(air));
+    let t = crossing(rule, lattice.sample(solid), lattice.sample(air));
     let towards = air.minus(solid);
     [(solid.x, towards.x), (solid.y, towards.y), (solid.z, towards.z)].map(|(from, step)| 65_536 * from + t * step)
 }
@@ -120,7 +138,7 @@ pub struct Sheet {
 }
 
 impl Sheet {
-    pub fn of(lattice: &Lattice, start: Point) -> Sheet {
+    pub fn of(rule: Rule, lattice: &Lattice, start: Point) -> Sheet {
         let tetrahedra = TETRAHEDRA.map(|names| names.map(corner));
         let visited = reached(lattice, start);
         let mut edges = Vec::new();
@@ -136,7 +154,7 @@ impl Sheet {
         }
         edges.sort_unstable();
         edges.dedup();
-        let vertices = edges.into_iter().map(|edge| (edge, position(lattice, edge))).collect();
+        let vertices = edges.into_iter().map(|edge| (edge, position(rule, lattice, edge))).collect();
         Sheet { visited, vertices, triangles }
     }
 

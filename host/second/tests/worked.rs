@@ -1,8 +1,8 @@
-//! Document 01's sheets worked by hand, and those of document 02 (iii) and (iv), and the pieces of (v), on the second mesher. Those of
-//! document 01 that give no start, and of (iii) that start at the lowest cube, name the lowest.
+//! Document 01's sheets worked by hand, and those of document 02 (iii), (iv) and (vi), and the pieces of (v), on the second mesher. Those
+//! of document 01 that give no start, and of (iii) that start at the lowest cube, name the lowest.
 
 use second::{
-    build, check, crossing, listing, parse, pieces, read, serialize, write, Built, Content, Found, Start, Verdict,
+    build, check, crossing, listing, parse, pieces, read, serialize, write, Built, Content, Found, Rule, Start, Verdict,
     Volume, Work, FILL,
 };
 
@@ -34,9 +34,16 @@ fn counts(sizes: [usize; 3], samples: &[i16], start: Start, room: [usize; 2]) ->
     [number, vertices, triangles, cubes]
 }
 
+/// Of a file, which is the same under both rules where every t is a whole number of units.
 fn verdict(sizes: [usize; 3], samples: &[i16], bytes: &[u8]) -> [usize; 2] {
+    let [down, nearest] = [Rule::Down, Rule::Nearest].map(|rule| verdict_under(rule, sizes, samples, bytes));
+    assert_eq!(down, nearest);
+    nearest
+}
+
+fn verdict_under(rule: Rule, sizes: [usize; 3], samples: &[i16], bytes: &[u8]) -> [usize; 2] {
     let Verdict { number, place } =
-        check(Volume { sizes, start: Start::Lowest, samples }, bytes, &mut Room::new().lend());
+        check(rule, Volume { sizes, start: Start::Lowest, samples }, bytes, &mut Room::new().lend());
     [number, place]
 }
 
@@ -258,7 +265,40 @@ fn one_above_the_fill_is_a_sample() {
 fn values_of_t() {
     let worked = [(0, 1, 0), (-1, 32767, 2), (-2, 1, 43690), (-32768, 32767, 32768), (-32768, 1, 65534)];
     for (p, q, t) in worked {
-        assert_eq!(crossing(p, q), t);
+        assert_eq!(crossing(Rule::Down, p, q), t);
+    }
+    // document 02 (vi)
+    let both = [
+        (0, 1, 0, 0),
+        (-2, 1, 43690, 43691),
+        (-3, 2, 39321, 39322),
+        (-1, 5, 10922, 10923),
+        (-1, 2, 21845, 21845),
+        (-32767, 1, 65534, 65534),
+        (-1, 32767, 2, 2),
+    ];
+    for (p, q, down, nearest) in both {
+        assert_eq!([crossing(Rule::Down, p, q), crossing(Rule::Nearest, p, q)], [down, nearest], "{p} {q}");
+    }
+    // a tie, which no 16-bit values have, goes to the solid end
+    assert_eq!(crossing(Rule::Nearest, -1, 131_071), 0);
+}
+
+/// A file under the rule that it was made under, and under the other.
+#[test]
+fn files_under_both_rules() {
+    let samples = [1, -2, -2, -2, -2, -2, -2, -2];
+    for made in [Rule::Down, Rule::Nearest] {
+        let t = 65_536 - crossing(made, -2, 1) as i32;
+        let content = Content {
+            sizes: [2, 2, 2],
+            records: vec![[0, t, 0, 0], [1, 0, t, 0], [2, 0, 0, t]],
+            triangles: vec![[1, 2, 0]],
+        };
+        for rule in [Rule::Down, Rule::Nearest] {
+            let wanted = if rule == made { [0, 0] } else { [17, 0] };
+            assert_eq!(verdict_under(rule, [2, 2, 2], &samples, &serialize(&content)), wanted);
+        }
     }
 }
 

@@ -1,6 +1,6 @@
 //! The library linked into this program. All of the host's unsafe code stands here.
 
-use super::{Built, Found, Got, Lattice, Level, Loaded, Place, Sizes, Verdict, Work, Wrote};
+use super::{Built, Found, Got, Lattice, Level, Loaded, Place, Rule, Sizes, Verdict, Work, Wrote};
 
 extern "C" {
     #[rustfmt::skip]
@@ -47,6 +47,7 @@ extern "C" {
         sizes: Sizes,
         from: u32,
         start: Place,
+        rule: u32,
         samples: *const i16,
         samples_len: usize,
         bytes: *const u8,
@@ -136,13 +137,13 @@ pub fn read(bytes: &[u8], vertices: &mut [i32], triangles: &mut [u32]) -> Got {
 }
 
 #[rustfmt::skip]
-pub fn check(lattice: Lattice, bytes: &[u8], work: Work) -> Verdict {
+pub fn check(rule: Rule, lattice: Lattice, bytes: &[u8], work: Work) -> Verdict {
     let Lattice { sizes, start, samples } = lattice;
     let (from, cube) = start.told();
     let Work { words, waiting, slots } = work;
     unsafe {
         malxuqeed_check(
-            sizes, from, cube, samples.as_ptr(), samples.len(),
+            sizes, from, cube, rule.told(), samples.as_ptr(), samples.len(),
             bytes.as_ptr(), bytes.len(),
             words.as_mut_ptr(), words.len(), waiting.as_mut_ptr(), waiting.len(), slots.as_mut_ptr(), slots.len(),
         )

@@ -4,7 +4,7 @@
 //! The process (`bridge/serve.c`) puts guard bytes round every slice and says whether they and the slices that are
 //! only read are unchanged. Each thread has a process; it ends with the thread.
 
-use super::{Built, Found, Got, Lattice, Level, Loaded, Sizes, Verdict, Work, Wrote};
+use super::{Built, Found, Got, Lattice, Level, Loaded, Rule, Sizes, Verdict, Work, Wrote};
 use std::cell::RefCell;
 use std::io::{self, Read, Write};
 use std::process::{exit, Child, ChildStdin, ChildStdout, Command, Stdio};
@@ -13,7 +13,7 @@ const EMULATOR: &str = env!("MALXUQEED_EMULATOR");
 const SERVER: &str = env!("MALXUQEED_SERVER");
 
 /// Numbers of a request besides the slices' lengths, and of an answer.
-const ASKED: usize = 8;
+const ASKED: usize = 9;
 const ANSWERED: usize = 8;
 
 /// Fixed-width numbers as bytes.
@@ -148,7 +148,7 @@ fn call(asked: [usize; ASKED], slices: &mut [&mut dyn Lent]) -> [usize; ANSWERED
 
 fn about(function: usize, lattice: &Lattice) -> [usize; ASKED] {
     let (Sizes { nx, ny, nz }, (from, cube)) = (lattice.sizes, lattice.start.told());
-    [function, nx, ny, nz, from as usize, cube.x, cube.y, cube.z]
+    [function, nx, ny, nz, from as usize, cube.x, cube.y, cube.z, 0]
 }
 
 pub fn build(mut lattice: Lattice, mut vertices: &mut [i32], mut triangles: &mut [u32], mut work: Work) -> Built {
@@ -168,39 +168,41 @@ pub fn write(
     mut bytes: &mut [u8],
 ) -> Wrote {
     let Sizes { nx, ny, nz } = sizes;
-    let asked = [1, nx, ny, nz, nv, nt, 0, 0];
+    let asked = [1, nx, ny, nz, nv, nt, 0, 0, 0];
     let [number, place, bytes, ..] = call(asked, &mut [&mut vertices, &mut triangles, &mut bytes]);
     Wrote { number, place, bytes }
 }
 
 pub fn read(mut bytes: &[u8], mut vertices: &mut [i32], mut triangles: &mut [u32]) -> Got {
     let [number, place, vertices, triangles, nx, ny, nz, _] =
-        call([2, 0, 0, 0, 0, 0, 0, 0], &mut [&mut bytes, &mut vertices, &mut triangles]);
+        call([2, 0, 0, 0, 0, 0, 0, 0, 0], &mut [&mut bytes, &mut vertices, &mut triangles]);
     Got { number, place, vertices, triangles, sizes: Sizes { nx, ny, nz } }
 }
 
-pub fn check(mut lattice: Lattice, mut bytes: &[u8], mut work: Work) -> Verdict {
+pub fn check(rule: Rule, mut lattice: Lattice, mut bytes: &[u8], mut work: Work) -> Verdict {
+    let mut asked = about(3, &lattice);
+    asked[ASKED - 1] = rule.told() as usize;
     let [number, place, ..] = call(
-        about(3, &lattice),
+        asked,
         &mut [&mut lattice.samples, &mut bytes, &mut work.words, &mut work.waiting, &mut work.slots],
     );
     Verdict { number, place }
 }
 
 pub fn stl_write(nv: usize, nt: usize, mut vertices: &[i32], mut triangles: &[u32], mut bytes: &mut [u8]) -> Wrote {
-    let [number, place, bytes, ..] = call([4, nv, nt, 0, 0, 0, 0, 0], &mut [&mut vertices, &mut triangles, &mut bytes]);
+    let [number, place, bytes, ..] = call([4, nv, nt, 0, 0, 0, 0, 0, 0], &mut [&mut vertices, &mut triangles, &mut bytes]);
     Wrote { number, place, bytes }
 }
 
 pub fn stl_read(mut bytes: &[u8], mut corners: &mut [i32]) -> Loaded {
-    let [number, place, facets, ..] = call([5, 0, 0, 0, 0, 0, 0, 0], &mut [&mut bytes, &mut corners]);
+    let [number, place, facets, ..] = call([5, 0, 0, 0, 0, 0, 0, 0, 0], &mut [&mut bytes, &mut corners]);
     Loaded { number, place, facets }
 }
 
 pub fn convert(level: Level, scale: u32, mut voxels: &[f32], mut samples: &mut [i16]) -> Verdict {
     let (halfway, grey, material) = level.parts();
     let [grey, material] = [grey, material].map(|grey| grey.to_bits() as usize);
-    let asked = [6, halfway.into(), grey, material, scale as usize, 0, 0, 0];
+    let asked = [6, halfway.into(), grey, material, scale as usize, 0, 0, 0, 0];
     let [number, place, ..] = call(asked, &mut [&mut voxels, &mut samples]);
     Verdict { number, place }
 }

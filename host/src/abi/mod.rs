@@ -108,6 +108,43 @@ impl Start {
     }
 }
 
+/// How t is rounded (document 02 (vi)).
+#[derive(Clone, Copy, Debug, Default, PartialEq, Eq)]
+pub enum Rule {
+    /// Down, as document 01 has it.
+    Down,
+    /// To the nearest unit, which a build makes.
+    #[default]
+    Nearest,
+}
+
+impl Rule {
+    pub const BOTH: [Rule; 2] = [Rule::Down, Rule::Nearest];
+
+    /// As the library takes it.
+    fn told(self) -> u32 {
+        match self {
+            Rule::Down => 0,
+            Rule::Nearest => 1,
+        }
+    }
+
+    pub fn other(self) -> Rule {
+        match self {
+            Rule::Down => Rule::Nearest,
+            Rule::Nearest => Rule::Down,
+        }
+    }
+
+    /// As a command line and a report name it.
+    pub fn name(self) -> &'static str {
+        match self {
+            Rule::Down => "down",
+            Rule::Nearest => "nearest",
+        }
+    }
+}
+
 /// A lattice as a caller gives it: sizes, a start and samples. Nothing is assumed of them.
 #[derive(Clone, Copy, Debug)]
 pub struct Lattice<'a> {
@@ -153,8 +190,8 @@ pub fn read(bytes: &[u8], vertices: &mut [i32], triangles: &mut [u32]) -> Got {
     library::read(bytes, vertices, triangles)
 }
 
-pub fn check(lattice: Lattice, bytes: &[u8], work: Work) -> Verdict {
-    library::check(lattice, bytes, work)
+pub fn check(rule: Rule, lattice: Lattice, bytes: &[u8], work: Work) -> Verdict {
+    library::check(rule, lattice, bytes, work)
 }
 
 pub fn stl_write(nv: usize, nt: usize, vertices: &[i32], triangles: &[u32], bytes: &mut [u8]) -> Wrote {

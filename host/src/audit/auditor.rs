@@ -2,10 +2,11 @@
 
 use super::manifest::{Entry, Line};
 use super::row::{Outcome, Row};
+use crate::abi::Rule;
 use crate::explain::{found, About};
 use crate::failure::Failure;
 use crate::files;
-use crate::judge::judge;
+use crate::judge::{judge, other_accepts, other_text};
 use crate::marks::marks;
 use crate::picture;
 use crate::room::Room;
@@ -28,6 +29,8 @@ pub struct Wants {
 pub struct Auditor {
     /// Where names start from.
     folder: PathBuf,
+    /// The rule of a line that names none.
+    rule: Rule,
     wants: Wants,
     room: Room,
     /// The last volume: sheets of one scan mostly stand together.
@@ -45,8 +48,8 @@ struct Loaded {
 const PICTURE: usize = 360;
 
 impl Auditor {
-    pub fn new(folder: PathBuf, wants: Wants) -> Auditor {
-        Auditor { folder, wants, room: Room::default(), last: None }
+    pub fn new(folder: PathBuf, rule: Rule, wants: Wants) -> Auditor {
+        Auditor { folder, rule, wants, room: Room::default(), last: None }
     }
 
     /// The row of a line, whatever it is.
@@ -93,7 +96,8 @@ impl Auditor {
         let loaded = self.load(&entry.volume)?;
         let read = files::read_sheet(&self.folder.join(&entry.sheet));
         let bytes = read.map_err(|error| Failure::reading(&entry.sheet, &error))?;
-        let judged = judge(&loaded.volume, &bytes, entry.start, &mut self.room);
+        let rule = entry.rule.unwrap_or(self.rule);
+        let judged = judge(&loaded.volume, &bytes, entry.start, rule, &mut self.room);
         let about = About {
             volume: Some((&entry.volume, &loaded.volume)),
             sheet: Some((&entry.sheet, &bytes)),
@@ -105,23 +109,28 @@ impl Auditor {
             (number, place) => (Outcome::Refused { number, place }, found(judged.verdict, &about)),
         };
         let mut row = Row::new(&entry.volume, &entry.sheet, judged.start, outcome, why);
+        row.rule = Some(rule);
+        if other_accepts(judged, &loaded.volume, &bytes, entry.start, rule, &mut self.room) {
+            row.why += &format!(". {}", other_text(rule));
+            row.other = true;
+        }
         if self.wants.counts {
             row.volume_sum = loaded.sum.clone();
             row.sheet_sum = self.checksum(&entry.sheet, &bytes, bytes.len() != files::END);
-            self.count(&mut row, &bytes, &loaded.volume);
+            self.count(&mut row, &bytes, &loaded.volume, rule);
         }
         Ok(row)
     }
 
     /// Counts what a file holds and how much of it is wrong, and draws it where it is refused.
-    fn count(&mut self, row: &mut Row, bytes: &[u8], volume: &Volume) {
+    fn count(&mut self, row: &mut Row, bytes: &[u8], volume: &Volume, rule: Rule) {
         let Ok(sheet) = Sheet::read(bytes) else { return };
         row.counts = Some((sheet.vertices.len() / 4, sheet.triangles.len() / 3));
         if row.outcome == Outcome::Accepted {
             row.wrong = Some(0);
             return;
         }
-        let marked = row.start.and_then(|start| marks(&sheet, volume, Some(start), &mut self.room));
+        let marked = row.start.and_then(|start| marks(&sheet, volume, Some(start), rule, &mut self.room));
         row.wrong = marked.as_ref().map(|marks| marks.wrong());
         if self.wants.pictures {
             row.picture = Some(picture::png(&sheet, marked.as_ref(), PICTURE));

@@ -4,7 +4,7 @@ use super::row::{Row, Value};
 use std::os::unix::ffi::OsStrExt;
 
 pub const COLUMNS: &str =
-    "volume,sheet,start,verdict,number,place,vertices,triangles,wrong_triangles,volume_sha256,sheet_sha256";
+    "volume,sheet,start,verdict,number,place,vertices,triangles,wrong_triangles,volume_sha256,sheet_sha256,rule";
 
 /// A name; in quotes where it holds what would part it.
 fn name(bytes: &[u8]) -> Vec<u8> {

@@ -2,6 +2,7 @@
 
 use super::row::{Outcome, Row};
 use super::totals::Totals;
+use crate::abi::Rule;
 use crate::commands::version::VERSION;
 use crate::explain::place_text;
 use crate::failure::{escaped, shown};
@@ -43,6 +44,13 @@ fn base64(bytes: &[u8]) -> String {
     text
 }
 
+fn of_rule(rule: Rule) -> &'static str {
+    match rule {
+        Rule::Down => "down",
+        Rule::Nearest => "to nearest",
+    }
+}
+
 fn sums(row: &Row) -> String {
     let sum = |name: &str, sum: &Option<String>| match sum {
         Some(sum) => format!("<br>{name} sha256 <code>{sum}</code>"),
@@ -61,6 +69,9 @@ fn card(row: &Row, number: usize, place: usize) -> String {
     let _ = write!(card, "<div><h3>{name}</h3><p>volume {}", plain(&shown(&row.volume)));
     if let Some(start) = row.start {
         let _ = write!(card, ", start {}", place_text(start));
+    }
+    if let Some(rule) = row.rule {
+        let _ = write!(card, ", rounded {}", of_rule(rule));
     }
     let _ = write!(card, "<br><b>refused {number} {place}</b>");
     if let Some((vertices, triangles)) = row.counts {
@@ -149,12 +160,13 @@ fn sound_sheets(rows: &[Row]) -> String {
             let [volume, sheet] = [&row.volume, &row.sheet].map(|name| plain(&shown(name)));
             let (vertices, triangles) = row.counts.unwrap_or_default();
             let (start, sums) = (row.start.map_or(String::new(), place_text), sums(row));
-            let cells = [sheet + &sums, volume, start, vertices.to_string(), triangles.to_string()];
+            let rule = row.rule.map_or("", of_rule).to_string();
+            let cells = [sheet + &sums, volume, start, rule, vertices.to_string(), triangles.to_string()];
             format!("<tr>{}</tr>\n", cells.map(|cell| format!("<td>{cell}</td>")).concat())
         })
         .collect();
     let note = "Each holds exactly the surface of its volume through its start.";
-    part("Sound sheets", note, &table(&["sheet", "volume", "start", "vertices", "triangles"], &lines))
+    part("Sound sheets", note, &table(&["sheet", "volume", "start", "rounded", "vertices", "triangles"], &lines))
 }
 
 /// What each number that came means, and what to do.

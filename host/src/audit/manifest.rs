@@ -1,7 +1,7 @@
 //! Manifests: a line, or a row of a CSV file, for each sheet.
 
-use crate::abi::Place;
-use crate::args::{triple, Start};
+use crate::abi::{Place, Rule};
+use crate::args::{rule, triple, Start};
 use std::ffi::OsStr;
 use std::os::unix::ffi::OsStrExt;
 use std::path::{Path, PathBuf};
@@ -12,13 +12,16 @@ pub struct Entry {
     pub volume: PathBuf,
     pub sheet: PathBuf,
     pub start: Start,
+    /// The rule that the sheet was made under, where the line names one.
+    pub rule: Option<Rule>,
 }
 
 /// An entry, or a line that is none with its number and what is wrong.
 pub type Line = Result<Entry, String>;
 
 /// What a line should look like.
-const SHAPE: &str = "is not VOLUME SHEET, VOLUME SHEET X,Y,Z or VOLUME SHEET with auto, lowest or default";
+const SHAPE: &str =
+    "is not VOLUME SHEET, with X,Y,Z, auto, lowest or default behind it or not, and with down or nearest behind that or not";
 
 fn name(bytes: &[u8]) -> PathBuf {
     PathBuf::from(OsStr::from_bytes(bytes))
@@ -33,6 +36,14 @@ fn start(text: &[u8]) -> Option<Start> {
         b"lowest" => Some(Start::Lowest),
         b"default" => Some(Start::Unnamed),
         text => triple(text).map(|[x, y, z]| Start::Cube(Place { x, y, z })),
+    }
+}
+
+/// A rule, or none where nothing stands there.
+fn rule_of(text: &[u8]) -> Option<Option<Rule>> {
+    match text.trim_ascii() {
+        b"" => Some(None),
+        text => rule(text).map(Some),
     }
 }
 
@@ -62,40 +73,45 @@ fn plain(bytes: &[u8]) -> Vec<Line> {
 fn entry(number: usize, line: &[u8]) -> Line {
     let by = if line.contains(&b'\t') { b'\t' } else { b' ' };
     let fields: Vec<&[u8]> = line.split(|&byte| byte == by).filter(|field| !field.is_empty()).collect();
-    let (volume, sheet, text) = match fields[..] {
-        [volume, sheet] => (volume, sheet, &b""[..]),
-        [volume, sheet, start] => (volume, sheet, start),
-        _ => return Err(format!("line {number} {SHAPE}")),
+    let wrong = || format!("line {number} {SHAPE}");
+    let (volume, sheet, text, by) = match fields[..] {
+        [volume, sheet] => (volume, sheet, &b""[..], &b""[..]),
+        [volume, sheet, by] if rule(by).is_some() => (volume, sheet, &b""[..], by),
+        [volume, sheet, start] => (volume, sheet, start, &b""[..]),
+        [volume, sheet, start, by] => (volume, sheet, start, by),
+        _ => return Err(wrong()),
     };
-    let start = start(text).ok_or_else(|| format!("line {number} {SHAPE}"))?;
-    Ok(Entry { volume: name(volume), sheet: name(sheet), start })
+    let (start, rule) = (start(text).ok_or_else(wrong)?, rule_of(by).ok_or_else(wrong)?);
+    Ok(Entry { volume: name(volume), sheet: name(sheet), start, rule })
 }
 
-/// Rows of a CSV file. Where the first one names columns, `volume`, `sheet` and perhaps `start` are looked up; else they are
-/// the first three.
+/// Rows of a CSV file. Where the first one names columns, `volume`, `sheet` and perhaps `start` and `rule` are looked up; else
+/// they are the first four.
 fn rows(bytes: &[u8]) -> Vec<Line> {
     let records = records(bytes);
-    let mut columns = [0, 1, 2];
+    let mut columns = [0, 1, 2, 3];
     let mut body = &records[..];
     if let Some(((_, head), rest)) = records.split_first() {
         let at = |wanted: &[u8]| head.iter().position(|field| field.trim_ascii().eq_ignore_ascii_case(wanted));
         if let (Some(volume), Some(sheet)) = (at(b"volume"), at(b"sheet")) {
-            columns = [volume, sheet, at(b"start").unwrap_or(usize::MAX)];
+            columns = [volume, sheet, at(b"start").unwrap_or(usize::MAX), at(b"rule").unwrap_or(usize::MAX)];
             body = rest;
         }
     }
     let row = |(number, fields): &(usize, Vec<Vec<u8>>)| {
         let field = |column: usize| fields.get(column).map(Vec::as_slice).unwrap_or_default();
-        let [volume, sheet, text] = columns.map(field);
+        let [volume, sheet, text, by] = columns.map(field);
         let wrong = || {
             format!(
-                "row at line {number} has no volume, no sheet, or a start that is not X Y Z, auto, lowest or default"
+                "row at line {number} has no volume, no sheet, a start that is not X Y Z, auto, lowest or default, or a rule that is \
+                 not down or nearest"
             )
         };
         if volume.is_empty() || sheet.is_empty() {
             return Err(wrong());
         }
-        Ok(Entry { volume: name(volume), sheet: name(sheet), start: start(text).ok_or_else(wrong)? })
+        let (start, rule) = (start(text).ok_or_else(wrong)?, rule_of(by).ok_or_else(wrong)?);
+        Ok(Entry { volume: name(volume), sheet: name(sheet), start, rule })
     };
     body.iter().map(row).collect()
 }
@@ -162,6 +178,12 @@ mod tests {
         assert_eq!(found(text, "m.txt"), [&wanted[..], &[None, None]].concat());
         let words = [some("a", "b", Start::Lowest), some("a", "b", Start::Unnamed), None];
         assert_eq!(found(b"a b lowest\na\tb\tdefault\na b highest", "m"), words);
+        let ruled = |text: &[u8]| lines(text, Path::new("m")).remove(0).map(|entry| (entry.start, entry.rule)).ok();
+        assert_eq!(ruled(b"a b"), Some((Start::Auto, None)));
+        assert_eq!(ruled(b"a b down"), Some((Start::Auto, Some(Rule::Down))));
+        assert_eq!(ruled(b"a\tb\t1,2,3\tnearest"), Some((CUBE, Some(Rule::Nearest))));
+        assert_eq!(ruled(b"a b lowest up"), None);
+        assert_eq!(ruled(b"a b down lowest"), None);
         assert_eq!(lines(b"\n\na", Path::new("m")), [Err(format!("line 3 {SHAPE}"))]);
         assert_eq!(found(b"", "m"), []);
     }
@@ -176,6 +198,11 @@ mod tests {
         assert_eq!(found(b"a,b,\"1,2,3\"\n", "m.csv"), [some("a", "b", CUBE)]);
         assert_eq!(found(b"volume,sheet\n\"a,b\n", "m.csv"), [None]);
         assert_eq!(found(b"volume,sheet\n", "m.csv"), []);
+        let ruled = |text: &[u8]| lines(text, Path::new("m.csv")).remove(0).map(|entry| entry.rule).ok();
+        assert_eq!(ruled(b"rule,volume,sheet\ndown,a,b\n"), Some(Some(Rule::Down)));
+        assert_eq!(ruled(b"volume,sheet,rule\na,b,\n"), Some(None));
+        assert_eq!(ruled(b"a,b,,nearest\n"), Some(Some(Rule::Nearest)));
+        assert_eq!(ruled(b"a,b,,up\n"), None);
         assert_eq!(
             found(b"a,b, lowest\na,b,default", "m.csv"),
             [Start::Lowest, Start::Unnamed].map(|s| some("a", "b", s))

@@ -1,6 +1,6 @@
 //! What the audit says about one sheet.
 
-use crate::abi::Place;
+use crate::abi::{Place, Rule};
 use crate::explain::place_text;
 use crate::failure::shown;
 use std::path::{Path, PathBuf};
@@ -29,6 +29,10 @@ pub struct Row {
     pub sheet: PathBuf,
     pub start: Option<Place>,
     pub outcome: Outcome,
+    /// The rule of rounding that it was checked under.
+    pub rule: Option<Rule>,
+    /// Whether it is refused, and accepted under the other rule.
+    pub other: bool,
     /// Why it is not accepted.
     pub why: String,
     /// Vertices and triangles of a file that can be read.
@@ -52,7 +56,7 @@ impl Row {
     pub fn new(volume: &Path, sheet: &Path, start: Option<Place>, outcome: Outcome, why: String) -> Row {
         let (volume, sheet) = (volume.to_path_buf(), sheet.to_path_buf());
         let (counts, wrong, volume_sum, sheet_sum, picture) = (None, None, None, None, None);
-        Row { volume, sheet, start, outcome, why, counts, wrong, volume_sum, sheet_sum, picture }
+        Row { volume, sheet, start, outcome, rule: None, other: false, why, counts, wrong, volume_sum, sheet_sum, picture }
     }
 
     /// The line that the audit prints.
@@ -67,6 +71,9 @@ impl Row {
         if let Some(start) = self.start {
             line += &format!(" {}", place_text(start));
         }
+        if let (true, Some(rule)) = (self.other, self.rule) {
+            line += &format!(", accepted under {}", rule.other().name());
+        }
         if self.outcome == Outcome::Unread {
             line += &format!(": {}", self.why);
         }
@@ -74,7 +81,7 @@ impl Row {
     }
 
     /// The columns of the reports, by name.
-    pub fn columns(&self) -> [(&'static str, Value<'_>); 11] {
+    pub fn columns(&self) -> [(&'static str, Value<'_>); 12] {
         let (number, place) = match self.outcome {
             Outcome::Accepted => (Some(0), Some(0)),
             Outcome::Refused { number, place } => (Some(number), Some(place)),
@@ -92,6 +99,7 @@ impl Row {
             ("wrong_triangles", Value::Number(self.wrong)),
             ("volume_sha256", Value::Text(self.volume_sum.clone())),
             ("sheet_sha256", Value::Text(self.sheet_sum.clone())),
+            ("rule", Value::Text(self.rule.map(|rule| rule.name().to_string()))),
         ]
     }
 }

@@ -5,7 +5,7 @@ use crate::audit::progress::Progress;
 use crate::audit::row::Row;
 use crate::audit::totals::Totals;
 use crate::audit::{csv, date, html, json};
-use crate::command::{Command, Opt, FORCE};
+use crate::command::{Command, Opt, FORCE, RULE};
 use crate::failure::{shown, Failure};
 use crate::files::{self, Pending};
 use crate::numbers;
@@ -27,17 +27,21 @@ pub static COMMAND: Command = Command {
     name: "audit",
     brief: "check many sheet files, and write a report",
     names: &["MANIFEST"],
-    options: &[FROM, CSV, JSON, HTML, FORCE],
+    options: &[FROM, RULE, CSV, JSON, HTML, FORCE],
     text: "\
-Checks every sheet file that a manifest names. A line of the manifest has a volume, its sheet and perhaps the start:
+Checks every sheet file that a manifest names. A line of the manifest has a volume, its sheet and perhaps the start and the rule:
 
-    VOLUME SHEET [X,Y,Z|lowest|default|auto]
+    VOLUME SHEET [X,Y,Z|lowest|default|auto] [down|nearest]
 
 Where a line holds a tab, tabs part its fields, so that names may hold spaces; else spaces do. Empty lines and lines that \
 start with # are passed over. A manifest may also be a CSV file: one whose name ends in .csv, or whose first line names the \
-columns volume, sheet and perhaps start. Without a start, or with auto, it is taken from the sheet itself (see check --start \
+columns volume, sheet and perhaps start and rule. Without a start, or with auto, it is taken from the sheet itself (see check --start \
 auto); lowest and default stand for check --start lowest and for check without --start. Names are taken from the folder of \
 the manifest.
+
+A line without a rule of rounding is checked under that of --rule, or to nearest. An archive of sheets that were built before \
+document 02 (vi) is audited with --rule down; one that holds both names the rule in its lines. Where a sheet is refused and \
+the other rule accepts it, its line ends in ', accepted under down' or ', accepted under nearest'.
 
 Each line gets a verdict on standard output: 'accepted', 'refused N PLACE' or 'unread', then volume, sheet and the start that \
 was taken. A summary with the count of each number follows; what the numbers mean is on standard error. A file that cannot be \
@@ -46,7 +50,7 @@ output, in place of the verdicts.
 
 The columns of --csv and --json are: volume, sheet, start (X Y Z), verdict (accepted, refused or unread), number, place, \
 vertices, triangles, wrong_triangles (those that the check would refuse one by one, where there is a sheet to compare with), \
-volume_sha256, sheet_sha256.
+volume_sha256, sheet_sha256, rule.
 
 Exit status: 0 if all are accepted, 1 if some are refused, 2 if a file or a line cannot be read.",
     run,
@@ -89,14 +93,14 @@ fn run(given: &Given, streams: &mut Streams) -> Result<Ended, Failure> {
     files::apart(&[manifest], &written)?;
     let lines = lines(&read(manifest, streams)?, manifest);
     if lines.is_empty() {
-        return Err(Failure::File(format!("{} names no sheet: a line is VOLUME SHEET [X,Y,Z]", shown(manifest))));
+        return Err(Failure::File(format!("{} names no sheet: a line is VOLUME SHEET [X,Y,Z] [RULE]", shown(manifest))));
     }
     // begun now, so that an audit of hours does not end in a file that cannot be written
     let begin = |(option, path): &(&'static Opt, &Path)| Ok((*option, Pending::new(path, given.has(&FORCE))?));
     let begun: Vec<(&Opt, Pending)> = reports.iter().map(begin).collect::<Result<_, Failure>>()?;
     let quiet = written.iter().any(|path| files::is_stream(path));
     let wants = Wants { counts: !reports.is_empty(), pictures: given.has(&HTML) };
-    let mut auditor = Auditor::new(folder(given, manifest), wants);
+    let mut auditor = Auditor::new(folder(given, manifest), given.rule(&RULE)?, wants);
     let (rows, totals) = judge_all(&lines, &mut auditor, quiet, streams)?;
     let date = date::now();
     for (option, pending) in begun {

@@ -1,4 +1,4 @@
-use crate::abi::{self, Place, Start, Verdict};
+use crate::abi::{self, Place, Rule, Start, Verdict};
 use crate::args::{usage, Given};
 use crate::command::{Command, Opt};
 use crate::explain::{place_text, sentence, About};
@@ -166,7 +166,7 @@ impl Run<'_> {
     }
 
     fn check(&mut self, start: Place, bytes: &[u8]) -> Verdict {
-        abi::check(self.volume.from(Start::Cube(start)), bytes, self.room.lend(self.volume.sizes))
+        abi::check(Rule::Nearest, self.volume.from(Start::Cube(start)), bytes, self.room.lend(self.volume.sizes))
     }
 
     /// Builds, writes and checks one sheet, and prints its line; answers whether it was accepted.

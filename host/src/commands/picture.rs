@@ -1,5 +1,5 @@
 use crate::args::{usage, Given, Start};
-use crate::command::{Command, Opt, FORCE, START_OR_AUTO};
+use crate::command::{Command, Opt, FORCE, RULE, START_OR_AUTO};
 use crate::explain::{place_text, About};
 use crate::failure::Failure;
 use crate::files;
@@ -20,7 +20,7 @@ pub static COMMAND: Command = Command {
     name: "picture",
     brief: "draw a sheet as a PNG picture",
     names: &["SHEET", "PNG"],
-    options: &[VOLUME, START_OR_AUTO, SIZE, FORCE],
+    options: &[VOLUME, START_OR_AUTO, RULE, SIZE, FORCE],
     text: "\
 Draws a sheet, seen from the corner of greatest x, y and z, with z upwards: x runs from the left corner of the outline to the \
 front one, y from the right one to the front one. A surface is blue where it is seen from the air and sand-coloured where it \
@@ -47,6 +47,10 @@ fn run(given: &Given, streams: &mut Streams) -> Result<Ended, Failure> {
         named if volume.is_some() => named,
         _ => return usage("--start needs the --volume that it is a cube of"),
     };
+    let rule = given.rule(&RULE)?;
+    if given.has(&RULE) && volume.is_none() {
+        return usage("--rule needs the --volume that the sheet is checked against");
+    }
     let read: Vec<&Path> = [from].into_iter().chain(volume).collect();
     files::apart(&read, &[to])?;
     let bytes = files::read_named_sheet(from, streams).map_err(|error| Failure::reading(from, &error))?;
@@ -60,8 +64,8 @@ fn run(given: &Given, streams: &mut Streams) -> Result<Ended, Failure> {
     if let Some(path) = volume {
         let volume = Volume::read(path, streams)?;
         let mut room = Room::default();
-        let judged = judge(&volume, &bytes, start, &mut room);
-        marked = marks(&sheet, &volume, judged.start, &mut room);
+        let judged = judge(&volume, &bytes, start, rule, &mut room);
+        marked = marks(&sheet, &volume, judged.start, rule, &mut room);
         let (verdict, about) = (judged.verdict, About { volume: Some((path, &volume)), start: judged.start, ..about });
         if marked.is_none() {
             return refuse_at(verdict, &about, streams);

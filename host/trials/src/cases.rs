@@ -1,7 +1,7 @@
 //! Random lattices, starts and lent room.
 
 use crate::random::Random;
-use host::abi::{self, Lattice, Place, Sizes, Work};
+use host::abi::{self, Lattice, Place, Rule, Sizes, Work};
 use second::{Start, Volume};
 
 /// A lattice as a caller might give it.
@@ -183,6 +183,14 @@ pub fn unnamed_case(random: &mut Random) -> Case {
     case
 }
 
+/// A rule as the second mesher takes it.
+pub fn second_rule(rule: Rule) -> second::Rule {
+    match rule {
+        Rule::Down => second::Rule::Down,
+        Rule::Nearest => second::Rule::Nearest,
+    }
+}
+
 /// The second mesher's answer with all the room there could be.
 pub fn sheet_counts(case: &Case) -> second::Built {
     let mut lent = Lent::clean(case.sizes, [28 * sample_count(case.sizes), 36 * cube_count(case.sizes)]);
@@ -269,9 +277,13 @@ impl Lent {
     }
 
     pub fn second_build(&mut self, case: &Case) -> second::Built {
+        self.second_build_under(Rule::Nearest, case)
+    }
+
+    pub fn second_build_under(&mut self, rule: Rule, case: &Case) -> second::Built {
         let Lent { vertices, triangles, words, waiting, slots } = self;
         let mut work = second::Work { words: words.lend(), waiting: waiting.lend(), slots: slots.lend() };
-        second::build(case.volume(), vertices.lend(), triangles.lend(), &mut work)
+        second::build_under(second_rule(rule), case.volume(), vertices.lend(), triangles.lend(), &mut work)
     }
 
     /// What a build has left, as a file's content.
@@ -294,16 +306,16 @@ impl Lent {
         second::pieces(case.sizes, &case.samples, triangles.lend(), &mut work)
     }
 
-    pub fn library_check(&mut self, case: &Case, file: &[u8]) -> host::abi::Verdict {
+    pub fn library_check(&mut self, rule: Rule, case: &Case, file: &[u8]) -> host::abi::Verdict {
         let Lent { words, waiting, slots, .. } = self;
         let work = Work { words: words.lend(), waiting: waiting.lend(), slots: slots.lend() };
-        host::abi::check(case.lattice(), file, work)
+        host::abi::check(rule, case.lattice(), file, work)
     }
 
-    pub fn second_check(&mut self, case: &Case, file: &[u8]) -> second::Verdict {
+    pub fn second_check(&mut self, rule: Rule, case: &Case, file: &[u8]) -> second::Verdict {
         let Lent { words, waiting, slots, .. } = self;
         let mut work = second::Work { words: words.lend(), waiting: waiting.lend(), slots: slots.lend() };
-        second::check(case.volume(), file, &mut work)
+        second::check(second_rule(rule), case.volume(), file, &mut work)
     }
 }
 
@@ -326,7 +338,12 @@ pub fn output_room(random: &mut Random, vertices: usize, triangles: usize) -> [u
 
 /// The sheet of a case as a file's content, where it has one.
 pub fn content(case: &Case) -> Option<second::Content> {
+    content_under(Rule::Nearest, case)
+}
+
+/// The same of the sheet of a rule.
+pub fn content_under(rule: Rule, case: &Case) -> Option<second::Content> {
     let mut lent = Lent::clean(case.sizes, [28 * sample_count(case.sizes), 36 * cube_count(case.sizes)]);
-    let built = lent.second_build(case);
+    let built = lent.second_build_under(rule, case);
     (built.number == 0).then(|| lent.content(case, &built))
 }

@@ -1,10 +1,10 @@
 //! One random case of each function, the library's answer and all lent memory held against the second mesher's.
 //! A difference panics with the case.
 
-use crate::cases::{case, content, output_room, sheet_counts, sizes, unnamed_case, Case, Guarded, Lent};
+use crate::cases::{case, content, content_under, output_room, sheet_counts, sizes, unnamed_case, Case, Guarded, Lent};
 use crate::random::Random;
 use crate::{damage, fill, pairing};
-use host::abi::{self, Built, Got, Verdict, Wrote};
+use host::abi::{self, Built, Got, Rule, Verdict, Wrote};
 use second::{Content, Start};
 
 fn built(b: second::Built) -> Built {
@@ -42,14 +42,20 @@ pub fn build_unnamed(random: &mut Random) -> usize {
     build_of(random, &case)
 }
 
+/// The rule that a file is checked under, and that which it was made under: mostly the same.
+fn rules(random: &mut Random) -> (Rule, Rule) {
+    let rule = random.pick(&Rule::BOTH);
+    (rule, if random.once_in(4) { rule.other() } else { rule })
+}
+
 /// The number that both gave is returned, for counting. Triangles of an accepted sheet pair up.
-fn check_of(random: &mut Random, about: &Case, file: &[u8]) -> usize {
+fn check_of(random: &mut Random, rule: Rule, about: &Case, file: &[u8]) -> usize {
     let mut ours = Lent::doubtful(random, about.sizes, [0, 0]);
     let mut theirs = ours.clone();
-    let answer = ours.library_check(about, file);
-    let second::Verdict { number, place } = theirs.second_check(about, file);
-    assert_eq!(answer, Verdict { number, place }, "{about:?} {file:?}");
-    assert!(ours == theirs, "memory differs after {answer:?}: {about:?} {file:?}");
+    let answer = ours.library_check(rule, about, file);
+    let second::Verdict { number, place } = theirs.second_check(rule, about, file);
+    assert_eq!(answer, Verdict { number, place }, "{rule:?} {about:?} {file:?}");
+    assert!(ours == theirs, "memory differs after {answer:?}: {rule:?} {about:?} {file:?}");
     if let (0, Ok(content)) = (answer.number, second::parse(file)) {
         pairing::hold(about, &content);
     }
@@ -58,7 +64,8 @@ fn check_of(random: &mut Random, about: &Case, file: &[u8]) -> usize {
 
 pub fn check(random: &mut Random) -> usize {
     let mut about = case(random);
-    let sheet = content(&about).unwrap_or_else(|| damage::free_content(random));
+    let (rule, made) = rules(random);
+    let sheet = content_under(made, &about).unwrap_or_else(|| damage::free_content(random));
     let file = damage::file(random, &sheet);
     if random.once_in(10) {
         // the sheet of other samples, or of another start
@@ -69,7 +76,7 @@ pub fn check(random: &mut Random) -> usize {
             about.start = other.start;
         }
     }
-    check_of(random, &about, &file)
+    check_of(random, rule, &about, &file)
 }
 
 /// A volume with fill, and the volume that a file of it was made from: itself, from another start, its fill read as solid or as
@@ -92,18 +99,20 @@ pub fn check_filled(random: &mut Random) -> usize {
         // no sheet is there to be made: what was made before the fill was known
         made = fill::unfilled(&about, -32_767);
     }
-    let sheet = content(&made).unwrap_or_else(|| damage::free_content(random));
+    let (rule, under) = rules(random);
+    let sheet = content_under(under, &made).unwrap_or_else(|| damage::free_content(random));
     let file = damage::file(random, &sheet);
-    check_of(random, &about, &file)
+    check_of(random, rule, &about, &file)
 }
 
 /// A volume whose start is not named, and a file of the sheet from there, or from the lowest crossed cube.
 pub fn check_unnamed(random: &mut Random) -> usize {
     let about = unnamed_case(random);
     let made = if random.once_in(3) { Case { start: Start::Lowest, ..about.clone() } } else { about.clone() };
-    let sheet = content(&made).unwrap_or_else(|| damage::free_content(random));
+    let (rule, under) = rules(random);
+    let sheet = content_under(under, &made).unwrap_or_else(|| damage::free_content(random));
     let file = damage::file(random, &sheet);
-    check_of(random, &about, &file)
+    check_of(random, rule, &about, &file)
 }
 
 /// Contents of files, some of them sheets.

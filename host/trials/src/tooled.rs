@@ -7,8 +7,9 @@ use crate::fill::any_case;
 use crate::floats::{self, Asked as Floats};
 use crate::random::Random;
 use crate::stl;
+use host::abi::Rule;
 use host::args::{self, Given, Start as Asked};
-use host::command::{Command, START, START_OR_AUTO};
+use host::command::{Command, RULE, START, START_OR_AUTO};
 use host::commands::help;
 use host::failure::Failure;
 use host::streams::Streams;
@@ -229,6 +230,11 @@ fn words(random: &mut Random, start: Start, floats: &Floats) -> Vec<OsString> {
         words.push("--start".into());
         words.push(random_start_word(random, start).into());
     }
+    let takes_rule = ["check", "audit"].iter().any(|name| words[0] == *name);
+    if random.once_in(if takes_rule { 3 } else { 40 }) {
+        words.push("--rule".into());
+        words.push(random.pick(&["down", "nearest", "down", "nearest", "down", "up", ""]).into());
+    }
     match random.below(12) {
         0 => words.insert(random.below(words.len() + 1), any_word(random, start)),
         1 => drop(words.remove(random.below(words.len()))),
@@ -324,10 +330,10 @@ fn parsed(file: &[u8], start: Start) -> Result<Case, usize> {
     second::volume(file).map(|(sizes, samples)| Case { sizes, start, samples })
 }
 
-fn verdict(volume: &[u8], sheet: &[u8], start: Start) -> (usize, usize) {
+fn verdict(rule: Rule, volume: &[u8], sheet: &[u8], start: Start) -> (usize, usize) {
     match parsed(volume, start) {
         Ok(case) => {
-            let second::Verdict { number, place } = Lent::clean(case.sizes, [0, 0]).second_check(&case, sheet);
+            let second::Verdict { number, place } = Lent::clean(case.sizes, [0, 0]).second_check(rule, &case, sheet);
             (number, place)
         }
         Err(number) => (number, 0),
@@ -336,7 +342,7 @@ fn verdict(volume: &[u8], sheet: &[u8], start: Start) -> (usize, usize) {
 
 /// The verdict where the start is left to the sheet, and that start: every crossed cube is tried. A file is accepted if it
 /// is from one of them; else the refusal is that of reading, or of some start.
-fn automatic(volume: &[u8], sheet: &[u8]) -> Vec<(usize, usize, Told)> {
+fn automatic(rule: Rule, volume: &[u8], sheet: &[u8]) -> Vec<(usize, usize, Told)> {
     let case = match parsed(volume, Start::Lowest) {
         Ok(case) => case,
         Err(number) => return vec![(number, 0, None)],
@@ -348,14 +354,14 @@ fn automatic(volume: &[u8], sheet: &[u8]) -> Vec<(usize, usize, Told)> {
     let starts = lattice.cubes().filter(|cube| lattice.crossed(*cube)).map(|cube| [cube.x, cube.y, cube.z]);
     let starts: Vec<[usize; 3]> = starts.map(|cube| cube.map(|v| v as usize)).collect();
     let of = |start: [usize; 3]| {
-        let (number, place) = verdict(volume, sheet, Start::Cube(start));
+        let (number, place) = verdict(rule, volume, sheet, Start::Cube(start));
         (number, place, Some(start))
     };
     let tried: Vec<_> = starts.into_iter().map(of).collect();
     if tried.iter().any(|(number, ..)| *number == 0) {
         return tried.into_iter().filter(|(number, ..)| *number == 0).collect();
     }
-    let (number, place) = verdict(volume, sheet, Start::Lowest);
+    let (number, place) = verdict(rule, volume, sheet, Start::Lowest);
     tried.into_iter().chain([(number, place, None)]).collect()
 }
 
@@ -582,7 +588,7 @@ fn audit_line((number, place, start): (usize, usize, Told), volume: &str, sheet:
     format!("{verdict} {volume} {sheet}{start}")
 }
 
-fn expect_audit(manifest: &Manifest) -> Expected {
+fn expect_audit(rule: Rule, manifest: &Manifest) -> Expected {
     if manifest.lines.is_empty() {
         return expected(2, "");
     }
@@ -594,11 +600,11 @@ fn expect_audit(manifest: &Manifest) -> Expected {
             Some((Ok(volume), Ok(sheet), start, volume_name, sheet_name)) => {
                 let may = match start {
                     Some(start) => {
-                        let (number, place) = verdict(&volume, &sheet, start);
+                        let (number, place) = verdict(rule, &volume, &sheet, start);
                         let told = if let Start::Cube(cube) = start { Some(cube) } else { None };
                         vec![(number, place, told)]
                     }
-                    None => automatic(&volume, &sheet),
+                    None => automatic(rule, &volume, &sheet),
                 };
                 refused += usize::from(may[0].0 != 0);
                 lines.push(may.into_iter().map(|may| audit_line(may, volume_name, sheet_name)).collect());
@@ -616,7 +622,7 @@ fn expect_audit(manifest: &Manifest) -> Expected {
     Expected { status, output: Output::Lines(lines), written: Vec::new() }
 }
 
-fn expect_check(volume: &Path, sheet: &Path, start: Result<Start, ()>, input: &[u8]) -> Expected {
+fn expect_check(rule: Rule, volume: &Path, sheet: &Path, start: Result<Start, ()>, input: &[u8]) -> Expected {
     if volume == Path::new("-") && sheet == volume {
         return expected(2, "");
     }
@@ -624,11 +630,11 @@ fn expect_check(volume: &Path, sheet: &Path, start: Result<Start, ()>, input: &[
     let first = |number, place| if number == 0 { "accepted".to_string() } else { format!("refused {number} {place}") };
     match start {
         Ok(start) => {
-            let (number, place) = verdict(&volume, &sheet, start);
+            let (number, place) = verdict(rule, &volume, &sheet, start);
             expected(u8::from(number != 0), first(number, place) + "\n")
         }
         Err(()) => {
-            let may = automatic(&volume, &sheet);
+            let may = automatic(rule, &volume, &sheet);
             let status = u8::from(may[0].0 != 0);
             let text = |(number, place, start): (usize, usize, Told)| {
                 let start = start.map_or(String::new(), |[x, y, z]| format!("start {x},{y},{z}\n"));
@@ -646,9 +652,9 @@ fn expect(parsed: &Result<(&'static Command, Given), Failure>, input: &[u8], man
             Some(Ok(start)) => expect_build(given.name(0), given.name(1), start, input),
             _ => expected(2, ""),
         },
-        "check" => match asked(given, true) {
-            Some(start) => expect_check(given.name(0), given.name(1), start, input),
-            None => expected(2, ""),
+        "check" => match (asked(given, true), given.rule(&RULE)) {
+            (Some(start), Ok(rule)) => expect_check(rule, given.name(0), given.name(1), start, input),
+            _ => expected(2, ""),
         },
         "list" => {
             let file = bytes_of(given.maybe(0).unwrap_or(Path::new("-")), input);
@@ -670,7 +676,10 @@ fn expect(parsed: &Result<(&'static Command, Given), Failure>, input: &[u8], man
         "stl" => expect_stl(given.name(0), given.name(1), input),
         "facets" => expect_facets(given.name(0), input),
         "convert" => expect_convert(command, given, input),
-        "audit" if given.name(0) == Path::new("m.txt") => expect_audit(manifest),
+        "audit" if given.rule(&RULE).is_err() => expected(2, ""),
+        "audit" if given.name(0) == Path::new("m.txt") => {
+            expect_audit(given.rule(&RULE).unwrap_or_default(), manifest)
+        }
         "audit" if bytes_of(given.name(0), input).is_err() => expected(2, ""),
         "help" if given.maybe(0).is_none() => expected(0, help::tool()),
         // what other commands print is held by tests of their own; here they must end, and leave the folder as it is

@@ -1,5 +1,6 @@
 //! The proved library held against the second mesher: answers, outputs, work room and guard words.
 
+use host::abi::Rule;
 use host::cubes::{Cubes, Piece};
 use host::sheet::Sheet;
 use host::volume::Volume;
@@ -146,7 +147,7 @@ fn worked_sheets_with_fill() {
         for (from, piece) in pieces.iter().enumerate() {
             let file = second::serialize(sheet);
             let mut lent = Lent::clean(piece.sizes, [0, 0]);
-            let (ours, theirs) = (lent.library_check(piece, &file), lent.second_check(piece, &file));
+            let (ours, theirs) = (lent.library_check(Rule::Nearest, piece, &file), lent.second_check(Rule::Nearest, piece, &file));
             assert_eq!((ours.number, ours.place), (theirs.number, theirs.place));
             assert_eq!((theirs.number, theirs.place), if of == from { (0, 0) } else { (17, 0) });
         }
@@ -198,7 +199,7 @@ fn pairing_with_fill_3000() {
             if seen.contains(&start) {
                 continue;
             }
-            seen.extend(second::Sheet::of(&lattice, start).visited);
+            seen.extend(second::Sheet::of(second::Rule::Nearest, &lattice, start).visited);
             case.start = Start::Cube([start.x, start.y, start.z].map(|v| v as usize));
             let content = cases::content(&case).expect("the start is crossed");
             single += pairing::hold(&case, &content);
@@ -370,7 +371,7 @@ fn surfaces(seed: u64, case: fn(&mut Random) -> Case) {
         let mut left: BTreeSet<second::Point> = lattice.cubes().filter(|cube| lattice.crossed(*cube)).collect();
         let mut wanted = Vec::new();
         while let Some(first) = left.first().copied() {
-            let visited = second::Sheet::of(&lattice, first).visited;
+            let visited = second::Sheet::of(second::Rule::Nearest, &lattice, first).visited;
             visited.iter().for_each(|cube| assert!(left.remove(cube)));
             let start = cases::place([first.x, first.y, first.z].map(|v| v as usize));
             wanted.push(Piece { start, cubes: visited.len() });
@@ -418,13 +419,13 @@ fn whole(mut case: Case, random: &mut Random) {
     assert!(read_vertices == vertices && read_triangles == triangles, "what was read differs");
 
     let mut lent = Lent::clean(case.sizes, [0, 0]);
-    assert_eq!(lent.library_check(&case, &file).number, 0);
+    assert_eq!(lent.library_check(Rule::Nearest, &case, &file).number, 0);
     let mut other = sheet.clone();
     damage::shuffle(random, &mut other);
-    assert_eq!(lent.library_check(&case, &second::serialize(&other)).number, 0);
+    assert_eq!(lent.library_check(Rule::Nearest, &case, &second::serialize(&other)).number, 0);
     let last = other.triangles.len() - 1;
     other.triangles[last].swap(1, 2);
-    let verdict = lent.library_check(&case, &second::serialize(&other));
+    let verdict = lent.library_check(Rule::Nearest, &case, &second::serialize(&other));
     assert_eq!((verdict.number, verdict.place), (18, last));
 
     // other samples, on the sheets that the second checker is quick with
@@ -432,7 +433,7 @@ fn whole(mut case: Case, random: &mut Random) {
         return;
     }
     case.samples[0] ^= 1;
-    let (ours, theirs) = (lent.library_check(&case, &file), lent.second_check(&case, &file));
+    let (ours, theirs) = (lent.library_check(Rule::Nearest, &case, &file), lent.second_check(Rule::Nearest, &case, &file));
     assert_eq!((ours.number, ours.place), (theirs.number, theirs.place));
 }
 

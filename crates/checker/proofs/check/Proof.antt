@@ -78,8 +78,8 @@ returns c =
     let e = b .begin .ensures .answer in
     let n = lengths (w s) in
     let h : judge (sampleTests (L s) (s .args .start) n) .number ≡ 0 → ⊥ = λ q. c .if1 .taken (e ∙ q) in
-    kept (L s) (s .args .start) (bs s) (w s) _
-    (sample-answer (L s) (s .args .start) n _ e ∙ sym (checked-samples (L s) (s .args .start) (bs s) n h))
+    kept (s .args .rule) (L s) (s .args .start) (bs s) (w s) _
+    (sample-answer (L s) (s .args .start) n _ e ∙ sym (checked-samples (s .args .rule) (L s) (s .args .start) (bs s) n h))
     (ap clears e ∙ sample-keeps (L s) (s .args .start) n h)
 
 tested-requires : tie.Need-tested-requires
@@ -91,7 +91,7 @@ returns-2 c =
     let s = entry b in
     let e = c .before .before .tested .ensures in
     let h : judge (fileTests (bs s)) .number ≡ 0 → ⊥ = λ q. c .if2 .taken (ap (λ (v : Verdict). v .number) e ∙ q) in
-    kept (L s) (s .args .start) (bs s) (w s) _ (e ∙ sym (checked-file (L s) (s .args .start) (bs s) (lengths (w s)) (passed b) h))
+    kept (s .args .rule) (L s) (s .args .start) (bs s) (w s) _ (e ∙ sym (checked-file (s .args .rule) (L s) (s .args .start) (bs s) (lengths (w s)) (passed b) h))
     (ap (λ (v : Verdict). clears (v .number)) e ∙ file-keeps (bs s) h)
 
 sizes-of-requires : tie.Need-sizes-of-requires
@@ -105,8 +105,8 @@ returns-3 c =
     let f = read (c .before) in
     let b = past f in
     let s = entry b in
-    kept (L s) (s .args .start) (bs s) (w s) _
-    (sym (checked-sizes (L s) (s .args .start) (bs s) (lengths (w s)) (passed b) (told f) (sym (same (c .before)) ∙ not-true _ (c .if3 .taken)))) refl
+    kept (s .args .rule) (L s) (s .args .start) (bs s) (w s) _
+    (sym (checked-sizes (s .args .rule) (L s) (s .args .start) (bs s) (lengths (w s)) (passed b) (told f) (sym (same (c .before)) ∙ not-true _ (c .if3 .taken)))) refl
 
 slice-aggregate-check-from : tie.Need-slice-aggregate-check-from
 slice-aggregate-check-from c = search needs
@@ -136,10 +136,10 @@ returns-4 c =
     let f = read (at-if3 .before) in
     let b = past f in
     let s = entry b in
-    let e = at-check .check-from .ensures .0 ∙ ap (λ (k : ℕ). judge (lastTests (L s) k (bs s))) (begins b .is) in
-    emptied (L s) (s .args .start) (bs s) (w s) _
-    (e ∙ sym (checked-last (L s) (s .args .start) (bs s) (lengths (w s)) (passed b) (told f) (sym (same (at-if3 .before)) ∙ not-false _ (at-if3 .if3 .left))))
-    (ap (λ (v : Verdict). clears (v .number)) e ∙ last-clears (L s) (startOf (L s) (s .args .start)) (bs s)) _ (at-check .check-from .ensures .1)
+    let e = at-check .check-from .ensures .0 ∙ ap (λ (k : ℕ). judge (lastTests (s .args .rule) (L s) k (bs s))) (begins b .is) in
+    emptied (s .args .rule) (L s) (s .args .start) (bs s) (w s) _
+    (e ∙ sym (checked-last (s .args .rule) (L s) (s .args .start) (bs s) (lengths (w s)) (passed b) (told f) (sym (same (at-if3 .before)) ∙ not-false _ (at-if3 .if3 .left))))
+    (ap (λ (v : Verdict). clears (v .number)) e ∙ last-clears (s .args .rule) (L s) (startOf (L s) (s .args .start)) (bs s)) _ (at-check .check-from .ensures .1)
 
 pub check-spec : {M : Type 1} → statement M
 check-spec =

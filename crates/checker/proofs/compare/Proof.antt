@@ -31,10 +31,10 @@ w s = work (wordsBy (s .args .sizes) (now (s .args .rows)) (now (s .args .vis)))
 abbrev start : tie.After-first-bad → tie.Start
 start c = c .before .before .before .before .before .before .before .before .before
 
-slots-left : (c : tie.After-first-bad) → Beyond (neededSlots (start c .args .sizes)) (now (start c .args .slots)) (c .first-bad .last .1 .1 .1 .0)
+slots-left : (c : tie.After-first-bad) → Beyond (neededSlots (start c .args .sizes)) (now (start c .args .slots)) (c .first-bad .last .1 .1 .1 .1 .0)
 slots-left c =
     let s = start c in
-    slots-beyond (L s) (fileVertices (bs s)) (fileV (bs s)) (now (s .args .slots)) _ (c .first-bad .result) (c .first-bad .ensures .0) (c .first-bad .ensures .1)
+    slots-beyond (s .args .rule) (L s) (fileVertices (bs s)) (fileV (bs s)) (now (s .args .slots)) _ (c .first-bad .result) (c .first-bad .ensures .0) (c .first-bad .ensures .1)
 
 -- all of them are the sheet's
 abbrev compared : tie.Else1 → tie.After-first-bad
@@ -44,7 +44,7 @@ module _ (c : tie.Else1) where
   abbrev s : tie.Start
   s = start (compared c)
 
-  no-record : firstBadRecord (L s) (fileVertices (bs s)) (now (s .args .slots)) (fileV (bs s)) ≡ fileV (bs s)
+  no-record : firstBadRecord (s .args .rule) (L s) (fileVertices (bs s)) (now (s .args .slots)) (fileV (bs s)) ≡ fileV (bs s)
   no-record = sym (compared c .first-bad .ensures .0) ∙ (c .if1 .left ∙ compared c .before .before .before .vertex-count .ensures .0)
 
 -- ── and so are the triangles ──
@@ -84,7 +84,7 @@ returns c =
     let a = c .before .before .before in
     let s = start a in
     record {
-      answer = answer-17 (L s) (bs s) (s .args .counts) (w s) (a .first-bad .result) (a .first-bad .ensures .0)
+      answer = answer-17 (s .args .rule) (L s) (bs s) (s .args .counts) (w s) (a .first-bad .result) (a .first-bad .ensures .0)
           (λ q. c .if1 .taken (q ∙ sym (a .before .before .before .vertex-count .ensures .0)));
       waiting = beyond-refl _ _;
       slots = slots-left a;
@@ -96,7 +96,7 @@ first-bad-requires-2 c κs =
     let s = start (compared e) in
     let p = s .pre .0 .0 in
     let r = s .pre .0 .1 in (
-      (p .full .sized, p .laid, all-named (L s) (fileVertices (bs s)) (now (s .args .slots)) (fileV (bs s)) (no-record e)),
+      (p .full .sized, p .laid, all-named (s .args .rule) (L s) (fileVertices (bs s)) (now (s .args .slots)) (fileV (bs s)) (no-record e)),
       (s .pre .1, (r .waiting, p .small, p .sure)),
     )
 
@@ -112,7 +112,7 @@ returns-2 c =
     let a = compared (passed b) in
     let s = start a in
     record {
-      answer = answer-18 (L s) (bs s) (s .args .counts) (w s) (no-record (passed b)) (b .first-bad2 .result) (b .first-bad2 .ensures .0)
+      answer = answer-18 (s .args .rule) (L s) (bs s) (s .args .counts) (w s) (no-record (passed b)) (b .first-bad2 .result) (b .first-bad2 .ensures .0)
           (λ q. c .if2 .taken (q ∙ sym (a .before .before .triangle-count .ensures .0)));
       waiting = waiting-left b;
       slots = slots-left a;
@@ -130,7 +130,7 @@ returns-3 c =
     let a = compared (passed (met e)) in
     let s = start a in
     record {
-      answer = answer-19-vertices (L s) (bs s) (s .args .counts) (w s) (no-record (passed (met e))) (no-triple e)
+      answer = answer-19-vertices (s .args .rule) (L s) (bs s) (s .args .counts) (w s) (no-record (passed (met e))) (no-triple e)
           (λ q. c .if3 .taken (a .before .before .before .vertex-count .ensures .0 ∙ q));
       waiting = waiting-left (met e);
       slots = slots-left a;
@@ -148,7 +148,7 @@ returns-4 c =
     let a = compared (passed (met e)) in
     let s = start a in
     record {
-      answer = answer-19-triangles (L s) (bs s) (s .args .counts) (w s) (no-record (passed (met e))) (no-triple e)
+      answer = answer-19-triangles (s .args .rule) (L s) (bs s) (s .args .counts) (w s) (no-record (passed (met e))) (no-triple e)
           (λ q. c .if4 .taken (a .before .before .triangle-count .ensures .0 ∙ q));
       waiting = waiting-left (met e);
       slots = slots-left a;
@@ -166,7 +166,7 @@ returns-5 c =
     let a = compared (passed (met e)) in
     let s = start a in
     record {
-      answer = answer-0 (L s) (bs s) (s .args .counts) (w s) (no-record (passed (met e))) (no-triple e)
+      answer = answer-0 (s .args .rule) (L s) (bs s) (s .args .counts) (w s) (no-record (passed (met e))) (no-triple e)
           (sym (a .before .before .before .vertex-count .ensures .0) ∙ c .before .before .if3 .left) (sym (a .before .before .triangle-count .ensures .0) ∙ c .if4 .left);
       waiting = waiting-left (met e);
       slots = slots-left a;

@@ -126,7 +126,7 @@ compare-requires c κs =
     let b = s n in
     let p = b .pre .0 in (
       (
-        comparable (L b) (p .0) (p .1 .start) _ _ (p .1 .stands) (slots n) (now (b .args .slots)) (waiting n) (b .pre .1 .2) (slots-are n) (empty n) _ (p .2),
+        comparable (b .args .rule) (L b) (p .0) (p .1 .start) _ _ (p .1 .stands) (slots n) (now (b .args .slots)) (waiting n) (b .pre .1 .2) (slots-are n) (empty n) _ (p .2),
         room n,
       ),
       (p .1 .stands .sides .long, b .pre .1 .0),
@@ -149,7 +149,7 @@ returns c =
       record {
         is = λ k at.
             q .answer
-            ∙ same-answer (L b) (p .0) k _ _ at (slots n) (now (b .args .slots)) (waiting n) (b .pre .1 .2) (slots-are n) (empty n) (room n)
+            ∙ same-answer (b .args .rule) (L b) (p .0) k _ _ at (slots n) (now (b .args .slots)) (waiting n) (b .pre .1 .2) (slots-are n) (empty n) (room n)
             (now (b .args .bytes)) _ (at-counts .counts-of .ensures);
       },
       beyond-trans (waiting-beyond n) (q .waiting),

@@ -79,7 +79,7 @@ returns-2 c =
     let p = s .pre .0 in
     let same = v .ensures .0 (not-false _ (past .if1 .left)) in (
       (λ e.
-          in-order-passes (L s) (p .0 .sized) _ _ _ _ _ _ _ (at-table .pattern-table .ensures) (s .pre .1 .1) (same .0) (same .1)
+          in-order-passes (s .args .rule) (L s) (p .0 .sized) _ _ _ _ _ _ _ (at-table .pattern-table .ensures) (s .pre .1 .1) (same .0) (same .1)
           (c .same-triangles .ensures e)),
       v .ensures .1,
     )

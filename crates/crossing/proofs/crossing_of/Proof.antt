@@ -1,12 +1,13 @@
 -- Both signed numbers are at least 0, so the division is one of naturals. Assumes nothing.
-use mathlib.Core.Path.{_≡_, refl, ap}
-use Prim.Native.Nat.{ℕ, _+_, _≤_}
+use mathlib.Core.Path.{_≡_, sym, ap, _∙_}
+use Prim.Native.Nat.{ℕ, _+_, _*_, _≤_}
 use native.Mathlib.Omega.{arith}
 use lib.IntN.{ℤ, pos, natAbs, _-ℤ_}
 use lib.Signed.{natAbs-le}
 use mir.Syntax.{w16, w32}
 use mir.Val.{SFits, toZ, ofZ}
 use mir.Facts.{toZ-pos}
+use Rattle.paper.specs.Sheet.{rounded}
 use Rattle.paper.proofs.Ints.{widens, widened}
 use Rattle.paper.proofs.Crossing.{solid-neg, air-pos, difference, crossing-nat, at-most-65534}
 use Rattle.crossing.proofs.crossing_of.Statement.{statement}
@@ -49,22 +50,28 @@ cast-d-2 c = widens (c .fits .p) w32 tt
 sub-d : tie.Need-sub-d
 sub-d c = rw (d-is c) (record { sfits = omega (arith, size (c .fits .p), size (c .fits .q)) })
 
-cast-result : tie.Need-cast-result
-cast-result c = rw (n-read c) (tt, record { fits = omega (arith, size (c .fits .p)) })
+cast-rounded-by : tie.Need-cast-rounded-by
+cast-rounded-by c = rw (n-read c) (tt, record { fits = omega (arith, size (c .fits .p)) })
 
-mul-result : tie.Need-mul-result
-mul-result c = rw (n-read c) (record { fits = omega (arith, size (c .fits .p)) })
+mul-rounded-by : tie.Need-mul-rounded-by
+mul-rounded-by c = rw (n-read c) (record { fits = omega (arith, size (c .fits .p)) })
 
-cast-result-2 : tie.Need-cast-result-2
-cast-result-2 c = rw (d-read c) (tt, record { fits = omega (arith, size (c .fits .p), size (c .fits .q)) })
+cast-rounded-by-2 : tie.Need-cast-rounded-by-2
+cast-rounded-by-2 c = rw (d-read c) (tt, record { fits = omega (arith, size (c .fits .p), size (c .fits .q)) })
 
-div-result : tie.Need-div-result
-div-result c = rw (d-read c) (omega (arith, air-pos (c .args .q) (c .pre .1)))
+rounded-by-requires : tie.Need-rounded-by-requires
+rounded-by-requires c κs =
+    let p = size (c .fits .p) in
+    let q = size (c .fits .q) in
+    rw (n-read c, d-read c) (omega (arith, p), omega (arith, air-pos (c .args .q) (c .pre .1)), omega (arith, p, q))
 
 returns : tie.Need-returns
 returns c =
-    let e = crossing-nat (c .args .p) (c .args .q) (c .pre .0) (c .pre .1) in
-    rw (n-read c, d-read c, ← e) (refl, at-most-65534 (c .args .p) (c .args .q) (c .pre .0) (c .pre .1) (c .fits .p .sfits))
+    let s = c .before in
+    let e = crossing-nat (s .args .rule) (s .args .p) (s .args .q) (s .pre .0) (s .pre .1) in
+    let r : c .rounded-by .result ≡ rounded (s .args .rule) (65536 * a s) (b s + a s) = rw (n-read s, d-read s) at (c .rounded-by .ensures) in
+    let is = r ∙ sym e in
+    (is, omega (arith, is, at-most-65534 (s .args .p) (s .args .q) (s .pre .0) (s .pre .1) (s .args .rule) (s .fits .p .sfits)))
 
 pub crossing-of-spec : {M : Type 1} → statement M
 crossing-of-spec =
@@ -75,8 +82,8 @@ crossing-of-spec =
     cast-d
     cast-d-2
     sub-d
-    cast-result
-    mul-result
-    cast-result-2
-    div-result
+    cast-rounded-by
+    mul-rounded-by
+    cast-rounded-by-2
+    rounded-by-requires
     returns)

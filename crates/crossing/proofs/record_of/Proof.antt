@@ -30,8 +30,8 @@ crossing-of-requires c κs =
       ap air (toZ-ofZ {w = w16} (record { sfits = c .value2 .ok }) ∙ c .value2 .ensures) ∙ p .1,
     )
 
-cast-t9 : tie.Need-cast-t9
-cast-t9 c = search needs
+cast-t10 : tie.Need-cast-t10
+cast-t10 c = search needs
 
 position-requires : tie.Need-position-requires
 position-requires c κs = search needs
@@ -49,7 +49,7 @@ returns c =
     let L = lattice (a .sizes) (now (a .samples)) in
     let p = toZ-ofZ {w = w16} (record { sfits = c .before .before .before .before .before .value .ok }) ∙ c .before .before .before .before .before .value .ensures in
     let q = toZ-ofZ {w = w16} (record { sfits = c .before .before .before .before .value2 .ok }) ∙ c .before .before .before .before .value2 .ensures in
-    let t : c .before .before .before .crossing-of .result ≡ crossing (valueAt L (a .s)) (valueAt L (a .a)) = c .before .before .before .crossing-of .ensures .0 ∙ (λ i. crossing (p i) (q i)) in
+    let t : c .before .before .before .crossing-of .result ≡ crossing (a .rule) (valueAt L (a .s)) (valueAt L (a .a)) = c .before .before .before .crossing-of .ensures .0 ∙ (λ i. crossing (a .rule) (p i) (q i)) in
     four (toZ-pos w32 (omega arith))
     (toZ-ofZ {w = w32} (record { sfits = c .before .before .position .ok }) ∙ (c .before .before .position .ensures ∙ ap (λ (t : ℕ). pos (coordinate (a .s .x) (a .a .x) t)) t))
     (toZ-ofZ {w = w32} (record { sfits = c .before .position2 .ok }) ∙ (c .before .position2 .ensures ∙ ap (λ (t : ℕ). pos (coordinate (a .s .y) (a .a .y) t)) t))
@@ -62,7 +62,7 @@ record-of-spec =
     value-requires
     value-requires-2
     crossing-of-requires
-    cast-t9
+    cast-t10
     position-requires
     position-requires-2
     position-requires-3

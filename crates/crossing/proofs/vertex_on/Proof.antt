@@ -86,8 +86,8 @@ returns c =
     let e = sym (side-is (c .before .before)) ∙ c .before .if1 .taken in
     let n = at-sample-no .sample-no .ensures .0 in
     c .record-of .ensures
-    ∙ ((λ i. recordAt (L s) (7 * n i + s .args .kind) (v i) (u i))
-    ∙ sym (record-air (L s) (s .args .p) (s .args .kind) (s .pre .1) x e))
+    ∙ ((λ i. recordAt (s .args .rule) (L s) (7 * n i + s .args .kind) (v i) (u i))
+    ∙ sym (record-air (L s) (s .args .p) (s .args .kind) (s .pre .1) x (s .args .rule) e))
 
 record-of-requires-2 : tie.Need-record-of-requires-2
 record-of-requires-2 c κs =
@@ -115,8 +115,8 @@ returns-2 c =
     let e = sym (side-is (c .before .before)) ∙ c .before .if1 .left in
     let n = at-sample-no .sample-no .ensures .0 in
     c .record-of2 .ensures
-    ∙ ((λ i. recordAt (L s) (7 * n i + s .args .kind) (u i) (v i))
-    ∙ sym (record-solid (L s) (s .args .p) (s .args .kind) (s .pre .1) x e))
+    ∙ ((λ i. recordAt (s .args .rule) (L s) (7 * n i + s .args .kind) (u i) (v i))
+    ∙ sym (record-solid (L s) (s .args .p) (s .args .kind) (s .pre .1) x (s .args .rule) e))
 
 pub vertex-on-spec : {M : Type 1} → statement M
 vertex-on-spec =

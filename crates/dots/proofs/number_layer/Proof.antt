@@ -5,6 +5,7 @@ use Prim.Native.Nat.{ℕ, _-_}
 use native.Mathlib.Omega.{arith}
 use lib.ListN.{length}
 use denote.Ref.{now}
+use Rattle.paper.specs.declared.Rule.the-variants.{Down}
 use Rattle.paper.specs.Lattice.{Lattice, lattice}
 use Rattle.dots.specs.Dots.{edgesOf, layerEdges, Drawn, drawn}
 use Rattle.dots.proofs.Laws.{Numbering, numbering-none, numbering-long, numbering-few, numbering-more, numbering-all}
@@ -79,8 +80,8 @@ loop-again c =
     let a = s .args in
     let A = k .put-row-at .ensures in (
       numbering-more (edges s) (a .sizes .ny) (a .at) (now (a .slots)) (l .loop .y) (l .loop .next) (l .loop .slots) (l .loop .inv .0)
-          (k .put-row-at .result) _ (omega arith) (draws-numbers (volume s) _ (l .loop .next) (l .loop .next) (left l) _ _ A),
-      draws-long (volume s) (l .loop .next) (l .loop .next) (left l) _ _ _ A .0 ∙ l .loop .inv .1,
+          (k .put-row-at .result) _ (omega arith) (draws-numbers Down (volume s) _ (l .loop .next) (l .loop .next) (left l) _ _ A),
+      draws-long Down (volume s) (l .loop .next) (l .loop .next) (left l) _ _ _ A .0 ∙ l .loop .inv .1,
     )
 
 same-length : tie.Need-same-length Inv-loop μ-loop

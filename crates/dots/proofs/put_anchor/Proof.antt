@@ -12,11 +12,11 @@ use Rattle.dots.proofs.put_anchor.Statement.{statement}
 use Rattle.dots.proofs.put_anchor.Tie as tie
 
 abbrev Inv-loop : tie.InvT-loop
-Inv-loop samples sizes p base ks slots₀ vertices₀ first at next₀ kind₀ slots vertices next kind =
-    Drawing (lattice sizes samples) (edgeAt ks base) 7 first at kind next (drawn vertices₀ slots₀) (drawn vertices slots)
+Inv-loop rule samples sizes p base ks slots₀ vertices₀ first at next₀ kind₀ slots vertices next kind =
+    Drawing rule (lattice sizes samples) (edgeAt ks base) 7 first at kind next (drawn vertices₀ slots₀) (drawn vertices slots)
 
 abbrev μ-loop : tie.MeasureT-loop
-μ-loop samples sizes p base ks slots₀ vertices₀ first at next₀ kind₀ slots vertices next kind = 7 - kind
+μ-loop rule samples sizes p base ks slots₀ vertices₀ first at next₀ kind₀ slots vertices next kind = 7 - kind
 
 abbrev start : tie.At-loop Inv-loop μ-loop → tie.Start Inv-loop μ-loop
 start c = c .before .before
@@ -34,7 +34,7 @@ loop-holds : tie.Need-loop-holds Inv-loop μ-loop
 loop-holds c =
     let s = c .before in
     let a = s .args in
-    drawing-none (volume s) (edgeAt (a .ks) (a .base)) 7 (a .first) (a .at) (lent s)
+    drawing-none (s .args .rule) (volume s) (edgeAt (a .ks) (a .base)) 7 (a .first) (a .at) (lent s)
 
 put-kind-requires : tie.Need-put-kind-requires Inv-loop μ-loop
 unfolding edgesAt
@@ -46,7 +46,7 @@ put-kind-requires c κs =
       (s .pre .0 .0, s .pre .0 .1, s .pre .0 .2, omega arith),
       (
         s .pre .1 .0,
-        drawing-room (volume s) (edgeAt (a .ks) (a .base)) 7 (a .first) (a .at) (p .kind) (p .next) (lent s) (left l) (p .inv)
+        drawing-room (s .args .rule) (volume s) (edgeAt (a .ks) (a .base)) 7 (a .first) (a .at) (p .kind) (p .next) (lent s) (left l) (p .inv)
             _ (s .pre .1 .1) (omega arith),
       ),
     )
@@ -63,7 +63,7 @@ loop-again c =
     let l = k .before .before .before .before in
     let s = start l in
     let a = s .args in
-    drawing-more (volume s) (edgeAt (a .ks) (a .base)) 7 (a .first) (a .at) (l .loop .kind) (l .loop .next) (lent s) (left l) (l .loop .inv)
+    drawing-more (s .args .rule) (volume s) (edgeAt (a .ks) (a .base)) 7 (a .first) (a .at) (l .loop .kind) (l .loop .next) (lent s) (left l) (l .loop .inv)
     (k .put-kind .result) _ (s .pre .1 .1 .since) (omega arith) (k .put-kind .ensures)
 
 long : (l : tie.At-loop Inv-loop μ-loop) → let s = start l in
@@ -71,7 +71,7 @@ long : (l : tie.At-loop Inv-loop μ-loop) → let s = start l in
 long l =
     let s = start l in
     let a = s .args in
-    drawing-long (volume s) (edgeAt (a .ks) (a .base)) 7 (a .first) (a .at) (l .loop .kind) (l .loop .next) (lent s) (left l) (l .loop .inv)
+    drawing-long (s .args .rule) (volume s) (edgeAt (a .ks) (a .base)) 7 (a .first) (a .at) (l .loop .kind) (l .loop .next) (lent s) (left l) (l .loop .inv)
 
 same-length : tie.Need-same-length Inv-loop μ-loop
 same-length c = long (c .before) .1
@@ -85,7 +85,7 @@ returns c =
     let l = c .before in
     let s = start l in
     let a = s .args in
-    drawing-all (volume s) (edgeAt (a .ks) (a .base)) 7 (a .first) (a .at) (l .loop .kind) (l .loop .next) (lent s) (left l) (l .loop .inv)
+    drawing-all (s .args .rule) (volume s) (edgeAt (a .ks) (a .base)) 7 (a .first) (a .at) (l .loop .kind) (l .loop .next) (lent s) (left l) (l .loop .inv)
     (omega arith)
 
 pub put-anchor-spec : {M : Type 1} → statement M

@@ -68,14 +68,14 @@ returns c =
     let s = entry (t .before) in
     let a = s .args in
     let L = lattice (a .sizes) (now (a .samples)) in
-    draws-kind L (a .first) (a .at) (a .ks) (a .base) (a .kind) (drawn (now (a .vertices)) (now (a .slots))) _ _ (p .put-vertex .ensures)
-    (f .vertex-on .ensures ∙ ap (λ (b : ℕ). vertexRecord L (b + a .kind)) (sym (s .pre .0 .2))) (on t)
+    draws-kind (a .rule) L (a .first) (a .at) (a .ks) (a .base) (a .kind) (drawn (now (a .vertices)) (now (a .slots))) _ _ (p .put-vertex .ensures)
+    (f .vertex-on .ensures ∙ ap (λ (b : ℕ). vertexRecord (a .rule) L (b + a .kind)) (sym (s .pre .0 .2))) (on t)
 
 returns-2 : tie.Need-returns-2
 returns-2 c =
     let s = entry (c .before) in
     let a = s .args in
-    draws-empty (lattice (a .sizes) (now (a .samples))) (a .first) (a .at) (drawn (now (a .vertices)) (now (a .slots)))
+    draws-empty (a .rule) (lattice (a .sizes) (now (a .samples))) (a .first) (a .at) (drawn (now (a .vertices)) (now (a .slots)))
     (edgeAt (a .ks) (a .base) (a .kind)) (kind-off (a .ks) (a .base) (a .kind) (sym (c .before .has-bit .ensures) ∙ c .if1 .left))
 
 pub put-kind-spec : {M : Type 1} → statement M

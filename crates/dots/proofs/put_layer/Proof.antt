@@ -13,12 +13,12 @@ use Rattle.dots.proofs.put_layer.Statement.{statement}
 use Rattle.dots.proofs.put_layer.Tie as tie
 
 abbrev Inv-loop : tie.InvT-loop
-Inv-loop samples sizes rows vis z slots₀ vertices₀ first at n next₀ y₀ slots vertices next y =
-    Drawing (lattice sizes samples) (λ y. edgesOf sizes rows vis y z) (sizes .ny) first at y next (drawn vertices₀ slots₀)
+Inv-loop rule samples sizes rows vis z slots₀ vertices₀ first at n next₀ y₀ slots vertices next y =
+    Drawing rule (lattice sizes samples) (λ y. edgesOf sizes rows vis y z) (sizes .ny) first at y next (drawn vertices₀ slots₀)
     (drawn vertices slots)
 
 abbrev μ-loop : tie.MeasureT-loop
-μ-loop samples sizes rows vis z slots₀ vertices₀ first at n next₀ y₀ slots vertices next y = sizes .ny - y
+μ-loop rule samples sizes rows vis z slots₀ vertices₀ first at n next₀ y₀ slots vertices next y = sizes .ny - y
 
 abbrev start : tie.At-loop Inv-loop μ-loop → tie.Start Inv-loop μ-loop
 start l = l .before .before .before .before
@@ -39,7 +39,7 @@ edges s y = let a = s .args in edgesOf (a .sizes) (now (a .rows)) (now (a .vis))
 loop-holds : tie.Need-loop-holds Inv-loop μ-loop
 loop-holds c =
     let s = c .before .before .before in
-    drawing-none (volume s) (edges s) (s .args .sizes .ny) (s .args .first) (s .args .at) (lent s)
+    drawing-none (s .args .rule) (volume s) (edges s) (s .args .sizes .ny) (s .args .first) (s .args .at) (lent s)
 
 put-row-at-requires : tie.Need-put-row-at-requires Inv-loop μ-loop
 unfolding layerEdges
@@ -52,7 +52,7 @@ put-row-at-requires c κs =
         s .pre .1 .0,
         (
           crossed-part (volume s) (edges s) (a .sizes .ny) (l .loop .y) (omega arith) (s .pre .1 .1 .0),
-          drawing-room (volume s) (edges s) (a .sizes .ny) (a .first) (a .at) (l .loop .y) (l .loop .next) (lent s) (left l) (l .loop .inv)
+          drawing-room (s .args .rule) (volume s) (edges s) (a .sizes .ny) (a .first) (a .at) (l .loop .y) (l .loop .next) (lent s) (left l) (l .loop .inv)
               _ (s .pre .1 .1 .1) (omega arith),
         ),
       ),
@@ -70,7 +70,7 @@ loop-again c =
     let l = k .before .before .before .before in
     let s = start l in
     let a = s .args in
-    drawing-more (volume s) (edges s) (a .sizes .ny) (a .first) (a .at) (l .loop .y) (l .loop .next) (lent s) (left l) (l .loop .inv)
+    drawing-more (s .args .rule) (volume s) (edges s) (a .sizes .ny) (a .first) (a .at) (l .loop .y) (l .loop .next) (lent s) (left l) (l .loop .inv)
     (k .put-row-at .result) _ (s .pre .1 .1 .1 .since) (omega arith) (k .put-row-at .ensures)
 
 long : (l : tie.At-loop Inv-loop μ-loop) → let s = start l in
@@ -78,7 +78,7 @@ long : (l : tie.At-loop Inv-loop μ-loop) → let s = start l in
 long l =
     let s = start l in
     let a = s .args in
-    drawing-long (volume s) (edges s) (a .sizes .ny) (a .first) (a .at) (l .loop .y) (l .loop .next) (lent s) (left l) (l .loop .inv)
+    drawing-long (s .args .rule) (volume s) (edges s) (a .sizes .ny) (a .first) (a .at) (l .loop .y) (l .loop .next) (lent s) (left l) (l .loop .inv)
 
 same-length : tie.Need-same-length Inv-loop μ-loop
 same-length c = long (c .before) .1
@@ -92,7 +92,7 @@ returns c =
     let l = c .before in
     let s = start l in
     let a = s .args in
-    drawing-all (volume s) (edges s) (a .sizes .ny) (a .first) (a .at) (l .loop .y) (l .loop .next) (lent s) (left l) (l .loop .inv)
+    drawing-all (s .args .rule) (volume s) (edges s) (a .sizes .ny) (a .first) (a .at) (l .loop .y) (l .loop .next) (lent s) (left l) (l .loop .inv)
     (omega arith)
 
 pub put-layer-spec : {M : Type 1} → statement M

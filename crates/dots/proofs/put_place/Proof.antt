@@ -61,7 +61,7 @@ returns c =
     let k = q .before .before .before in
     let s = entry k in
     let a = s .args in
-    draws-same (lattice (a .sizes) (now (a .samples))) (a .first) (a .at) (drawn (now (a .vertices)) (now (a .slots)))
+    draws-same (a .rule) (lattice (a .sizes) (now (a .samples))) (a .first) (a .at) (drawn (now (a .vertices)) (now (a .slots)))
     (q .put-anchor .result) _ _ _
     (anchor-is (a .k) (a .row) (a .p .x) (k .kinds-at .result) (k .kinds-at .ensures .0)) (q .put-anchor .ensures)
 
@@ -70,7 +70,7 @@ returns-2 c =
     let s = c .before .before .before in
     let a = s .args in
     let off : bit (a .any) (a .p .x) ≡ false = sym (c .before .has-bit .ensures) ∙ c .if1 .left in
-    draws-empty (lattice (a .sizes) (now (a .samples))) (a .first) (a .at) (drawn (now (a .vertices)) (now (a .slots)))
+    draws-empty (a .rule) (lattice (a .sizes) (now (a .samples))) (a .first) (a .at) (drawn (now (a .vertices)) (now (a .slots)))
     (anchorEdges (a .k) (a .row) (a .p .x))
     (any-none (a .k) (a .row) (a .p .x) (ap (λ (w : ℕ). bit w (a .p .x)) (sym (s .pre .0 .2)) ∙ off))
 

@@ -14,12 +14,12 @@ use Rattle.dots.proofs.put_row.Statement.{statement}
 use Rattle.dots.proofs.put_row.Tie as tie
 
 abbrev Inv-loop : tie.InvT-loop
-Inv-loop samples sizes k y z slots₀ vertices₀ first at any n row next₀ x₀ slots vertices next x =
-    Drawing (lattice sizes samples) (anchorEdges k (7 * (sizes .nx * (y + sizes .ny * z)))) (sizes .nx) first at x next
+Inv-loop rule samples sizes k y z slots₀ vertices₀ first at any n row next₀ x₀ slots vertices next x =
+    Drawing rule (lattice sizes samples) (anchorEdges k (7 * (sizes .nx * (y + sizes .ny * z)))) (sizes .nx) first at x next
     (drawn vertices₀ slots₀) (drawn vertices slots)
 
 abbrev μ-loop : tie.MeasureT-loop
-μ-loop samples sizes k y z slots₀ vertices₀ first at any n row next₀ x₀ slots vertices next x = sizes .nx - x
+μ-loop rule samples sizes k y z slots₀ vertices₀ first at any n row next₀ x₀ slots vertices next x = sizes .nx - x
 
 abbrev start : tie.At-loop Inv-loop μ-loop → tie.Start Inv-loop μ-loop
 start l = l .before .before .before .before
@@ -62,7 +62,7 @@ mul-row-3 c = omega (arith, small (c .before .before .before) .middle)
 loop-holds : tie.Need-loop-holds Inv-loop μ-loop
 loop-holds c =
     let s = c .before .before .before in
-    drawing-none (volume s) (edges s) (s .args .sizes .nx) (s .args .first) (s .args .at) (lent s)
+    drawing-none (s .args .rule) (volume s) (edges s) (s .args .sizes .nx) (s .args .first) (s .args .at) (lent s)
 
 put-place-requires : tie.Need-put-place-requires Inv-loop μ-loop
 unfolding rowEdges
@@ -78,7 +78,7 @@ put-place-requires c κs =
       ),
       (
         crossed-part (volume s) (edges s) (a .sizes .nx) (l .loop .x) (omega arith) (s .pre .1 .0),
-        drawing-room (volume s) (edges s) (a .sizes .nx) (a .first) (a .at) (l .loop .x) (l .loop .next) (lent s) (left l) (l .loop .inv) _
+        drawing-room (s .args .rule) (volume s) (edges s) (a .sizes .nx) (a .first) (a .at) (l .loop .x) (l .loop .next) (lent s) (left l) (l .loop .inv) _
             (s .pre .1 .1) (omega arith),
       ),
     )
@@ -95,7 +95,7 @@ loop-again c =
     let l = k .before .before .before .before in
     let s = start l in
     let a = s .args in
-    drawing-more (volume s) (edges s) (a .sizes .nx) (a .first) (a .at) (l .loop .x) (l .loop .next) (lent s) (left l) (l .loop .inv)
+    drawing-more (s .args .rule) (volume s) (edges s) (a .sizes .nx) (a .first) (a .at) (l .loop .x) (l .loop .next) (lent s) (left l) (l .loop .inv)
     (k .put-place .result) _ (s .pre .1 .1 .since) (omega arith) (k .put-place .ensures)
 
 long : (l : tie.At-loop Inv-loop μ-loop) → let s = start l in
@@ -103,7 +103,7 @@ long : (l : tie.At-loop Inv-loop μ-loop) → let s = start l in
 long l =
     let s = start l in
     let a = s .args in
-    drawing-long (volume s) (edges s) (a .sizes .nx) (a .first) (a .at) (l .loop .x) (l .loop .next) (lent s) (left l) (l .loop .inv)
+    drawing-long (s .args .rule) (volume s) (edges s) (a .sizes .nx) (a .first) (a .at) (l .loop .x) (l .loop .next) (lent s) (left l) (l .loop .inv)
 
 same-length : tie.Need-same-length Inv-loop μ-loop
 same-length c = long (c .before) .1
@@ -117,7 +117,7 @@ returns c =
     let l = c .before in
     let s = start l in
     let a = s .args in
-    drawing-all (volume s) (edges s) (a .sizes .nx) (a .first) (a .at) (l .loop .x) (l .loop .next) (lent s) (left l) (l .loop .inv)
+    drawing-all (s .args .rule) (volume s) (edges s) (a .sizes .nx) (a .first) (a .at) (l .loop .x) (l .loop .next) (lent s) (left l) (l .loop .inv)
     (omega arith)
 
 pub put-row-spec : {M : Type 1} → statement M

@@ -47,7 +47,7 @@ returns c =
     let v = c .before .before in
     let s = root v in
     let a = s .args in
-    draws-empty (volume s) (a .first) (a .at) (lent s) (edges s)
+    draws-empty (s .args .rule) (volume s) (a .first) (a .at) (lent s) (edges s)
     (no-edges (a .sizes) (now (a .rows)) (now (a .vis)) (a .y) (a .z) (v .cubes-around .result) (v .cubes-around .ensures)
     (sym (c .before .either .ensures) ∙ c .if1 .taken) (s .pre .0 .0 .sized .x-high))
 
@@ -82,7 +82,7 @@ returns-2 c =
     let k = q .before .before .before in
     let s = root (looked k) in
     let a = s .args in
-    draws-same (volume s) (a .first) (a .at) (lent s) (q .put-row .result) _ _ _ (row-is k) (q .put-row .ensures)
+    draws-same (s .args .rule) (volume s) (a .first) (a .at) (lent s) (q .put-row .result) _ _ _ (row-is k) (q .put-row .ensures)
 
 pub put-row-at-spec : {M : Type 1} → statement M
 put-row-at-spec =

@@ -15,11 +15,11 @@ use Rattle.dots.proofs.put_vertices.Statement.{statement}
 use Rattle.dots.proofs.put_vertices.Tie as tie
 
 abbrev Inv-loop : tie.InvT-loop
-Inv-loop samples sizes rows vis slots₀ vertices₀ n next₀ z₀ slots vertices next z =
-    Drawing (lattice sizes samples) (layerEdges sizes rows vis) (sizes .nz) 0 0 z next (drawn vertices₀ slots₀) (drawn vertices slots)
+Inv-loop rule samples sizes rows vis slots₀ vertices₀ n next₀ z₀ slots vertices next z =
+    Drawing rule (lattice sizes samples) (layerEdges sizes rows vis) (sizes .nz) 0 0 z next (drawn vertices₀ slots₀) (drawn vertices slots)
 
 abbrev μ-loop : tie.MeasureT-loop
-μ-loop samples sizes rows vis slots₀ vertices₀ n next₀ z₀ slots vertices next z = sizes .nz - z
+μ-loop rule samples sizes rows vis slots₀ vertices₀ n next₀ z₀ slots vertices next z = sizes .nz - z
 
 abbrev start : tie.At-loop Inv-loop μ-loop → tie.Start Inv-loop μ-loop
 start l = l .before .before .before .before
@@ -53,7 +53,7 @@ room s =
 loop-holds : tie.Need-loop-holds Inv-loop μ-loop
 loop-holds c =
     let s = c .before .before .before in
-    drawing-none (volume s) (edges s) (s .args .sizes .nz) 0 0 (lent s)
+    drawing-none (s .args .rule) (volume s) (edges s) (s .args .sizes .nz) 0 0 (lent s)
 
 put-layer-requires : tie.Need-put-layer-requires Inv-loop μ-loop
 unfolding edgesBy
@@ -66,7 +66,7 @@ put-layer-requires c κs =
         s .pre .1 .0,
         (
           crossed-part (volume s) (edges s) (a .sizes .nz) (l .loop .z) (omega arith) (s .pre .1 .1 .0),
-          drawing-room (volume s) (edges s) (a .sizes .nz) 0 0 (l .loop .z) (l .loop .next) (lent s) (left l) (l .loop .inv) _
+          drawing-room (s .args .rule) (volume s) (edges s) (a .sizes .nz) 0 0 (l .loop .z) (l .loop .next) (lent s) (left l) (l .loop .inv) _
               (room s) (omega arith),
         ),
       ),
@@ -84,7 +84,7 @@ loop-again c =
     let l = k .before .before .before .before in
     let s = start l in
     let a = s .args in
-    drawing-more (volume s) (edges s) (a .sizes .nz) 0 0 (l .loop .z) (l .loop .next) (lent s) (left l) (l .loop .inv)
+    drawing-more (s .args .rule) (volume s) (edges s) (a .sizes .nz) 0 0 (l .loop .z) (l .loop .next) (lent s) (left l) (l .loop .inv)
     (k .put-layer .result) _ (room s .since) (omega arith) (k .put-layer .ensures)
 
 long : (l : tie.At-loop Inv-loop μ-loop) → let s = start l in
@@ -92,7 +92,7 @@ long : (l : tie.At-loop Inv-loop μ-loop) → let s = start l in
 long l =
     let s = start l in
     let a = s .args in
-    drawing-long (volume s) (edges s) (a .sizes .nz) 0 0 (l .loop .z) (l .loop .next) (lent s) (left l) (l .loop .inv)
+    drawing-long (s .args .rule) (volume s) (edges s) (a .sizes .nz) 0 0 (l .loop .z) (l .loop .next) (lent s) (left l) (l .loop .inv)
 
 same-length : tie.Need-same-length Inv-loop μ-loop
 same-length c = long (c .before) .1
@@ -106,7 +106,7 @@ returns c =
     let l = c .before in
     let s = start l in
     let a = s .args in
-    drawing-all (volume s) (edges s) (a .sizes .nz) 0 0 (l .loop .z) (l .loop .next) (lent s) (left l) (l .loop .inv)
+    drawing-all (s .args .rule) (volume s) (edges s) (a .sizes .nz) 0 0 (l .loop .z) (l .loop .next) (lent s) (left l) (l .loop .inv)
     (omega arith)
 
 pub put-vertices-spec : {M : Type 1} → statement M

@@ -16,12 +16,12 @@ use Rattle.ordered.proofs.same_layer_vertices.Statement.{statement}
 use Rattle.ordered.proofs.same_layer_vertices.Tie as tie
 
 abbrev Inv-loop : tie.InvT-loop
-Inv-loop samples sizes rows vis z bytes nv slots₀ row₀ at n next₀ y₀ slots row next y =
+Inv-loop rule samples sizes rows vis z bytes nv slots₀ row₀ at n next₀ y₀ slots row next y =
     (length row ≡ length row₀)
-    × Going (lattice sizes samples) (λ y. edgesOf sizes rows vis y z) (fileVertices bytes) nv at n y next slots₀ slots
+    × Going rule (lattice sizes samples) (λ y. edgesOf sizes rows vis y z) (fileVertices bytes) nv at n y next slots₀ slots
 
 abbrev μ-loop : tie.MeasureT-loop
-μ-loop samples sizes rows vis z bytes nv slots₀ row₀ at n next₀ y₀ slots row next y = n - y
+μ-loop rule samples sizes rows vis z bytes nv slots₀ row₀ at n next₀ y₀ slots row next y = n - y
 
 abbrev start : tie.At-loop Inv-loop μ-loop → tie.Start Inv-loop μ-loop
 start l = l .before .before .before .before .before
@@ -40,7 +40,7 @@ abbrev file : tie.Start Inv-loop μ-loop → List ℤ
 file s = fileVertices (now (s .args .bytes))
 
 loop-holds : tie.Need-loop-holds Inv-loop μ-loop
-loop-holds c = let s = c .before .before .before .before in (refl, going-none _ _ _ _ _ _ _ (s .pre .1 .1 .1 .2))
+loop-holds c = let s = c .before .before .before .before in (refl, going-none _ _ _ _ _ _ _ _ (s .pre .1 .1 .1 .2))
 
 same-row-vertices-requires : tie.Need-same-row-vertices-requires Inv-loop μ-loop
 unfolding layerEdges
@@ -51,7 +51,7 @@ same-row-vertices-requires c κs =
     let p = s .pre in
     let f = p .1 .1 .1 in
     let g = l .loop .inv .1 in
-    let long = going-long _ _ _ _ _ _ _ _ _ _ g in (
+    let long = going-long _ _ _ _ _ _ _ _ _ _ _ g in (
       (p .0 .0, t .loop-test .taken, p .0 .1, omega (arith, p .0 .2, long)),
       (
         p .1 .0,
@@ -65,7 +65,7 @@ same-row-vertices-requires c κs =
 same-length : tie.Need-same-length Inv-loop μ-loop
 same-length c =
     let p = c .before .before .before .before in
-    p .same-row-vertices .ensures .beyond .same-length ∙ going-long _ _ _ _ _ _ _ _ _ _ (at-loop p .loop .inv .1)
+    p .same-row-vertices .ensures .beyond .same-length ∙ going-long _ _ _ _ _ _ _ _ _ _ _ (at-loop p .loop .inv .1)
 
 same-length-2 : tie.Need-same-length-2 Inv-loop μ-loop
 same-length-2 c = c .before .row .given ∙ at-loop (c .before .before .before .before) .loop .inv .0
@@ -73,7 +73,7 @@ same-length-2 c = c .before .row .given ∙ at-loop (c .before .before .before .
 returns : tie.Need-returns Inv-loop μ-loop
 returns c =
     let p = c .before .before .before .before in
-    going-differs _ _ _ _ _ _ _ _ _ _ (at-loop p .loop .inv .1) _ _ (c .if1 .taken) (p .same-row-vertices .ensures) _
+    going-differs _ _ _ _ _ _ _ _ _ _ _ (at-loop p .loop .inv .1) _ _ (c .if1 .taken) (p .same-row-vertices .ensures) _
 
 add-y : tie.Need-add-y Inv-loop μ-loop
 add-y c = search needs
@@ -86,18 +86,18 @@ loop-again c =
     let p = c .before .before .before .before in
     let l = at-loop p in
     let h = c .if1 .left in
-    let g = going-more _ _ _ _ _ _ _ _ _ _ (l .loop .inv .1) _ _ (omega arith) (omega arith) (p .same-row-vertices .ensures) in
+    let g = going-more _ _ _ _ _ _ _ _ _ _ _ (l .loop .inv .1) _ _ (omega arith) (omega arith) (p .same-row-vertices .ensures) in
     (c .before .row .given ∙ l .loop .inv .0, g)
 
 same-length-3 : tie.Need-same-length-3 Inv-loop μ-loop
-same-length-3 c = going-long _ _ _ _ _ _ _ _ _ _ (c .before .loop .inv .1)
+same-length-3 c = going-long _ _ _ _ _ _ _ _ _ _ _ (c .before .loop .inv .1)
 
 same-length-4 : tie.Need-same-length-4 Inv-loop μ-loop
 same-length-4 c = c .before .loop .inv .0
 
 returns-2 : tie.Need-returns-2 Inv-loop μ-loop
 unfolding layerEdges
-returns-2 c = going-all _ _ _ _ _ _ _ _ _ _ (c .before .loop .inv .1) (omega arith)
+returns-2 c = going-all _ _ _ _ _ _ _ _ _ _ _ (c .before .loop .inv .1) (omega arith)
 
 pub same-layer-vertices-spec : {M : Type 1} → statement M
 same-layer-vertices-spec =

@@ -16,12 +16,12 @@ use Rattle.ordered.proofs.same_layers_vertices.Statement.{statement}
 use Rattle.ordered.proofs.same_layers_vertices.Tie as tie
 
 abbrev Inv-loop : tie.InvT-loop
-Inv-loop samples sizes rows vis bytes nv slots₀ row₀ n next₀ z₀ slots row next z =
+Inv-loop rule samples sizes rows vis bytes nv slots₀ row₀ n next₀ z₀ slots row next z =
     (length row ≡ length row₀)
-    × Going (lattice sizes samples) (layerEdges sizes rows vis) (fileVertices bytes) nv 0 n z next slots₀ slots
+    × Going rule (lattice sizes samples) (layerEdges sizes rows vis) (fileVertices bytes) nv 0 n z next slots₀ slots
 
 abbrev μ-loop : tie.MeasureT-loop
-μ-loop samples sizes rows vis bytes nv slots₀ row₀ n next₀ z₀ slots row next z = n - z
+μ-loop rule samples sizes rows vis bytes nv slots₀ row₀ n next₀ z₀ slots row next z = n - z
 
 abbrev start : tie.At-loop Inv-loop μ-loop → tie.Start Inv-loop μ-loop
 start l = l .before .before .before .before .before
@@ -40,7 +40,7 @@ abbrev file : tie.Start Inv-loop μ-loop → List ℤ
 file s = fileVertices (now (s .args .bytes))
 
 loop-holds : tie.Need-loop-holds Inv-loop μ-loop
-loop-holds c = (refl, going-none _ _ _ _ _ _ _ (omega arith))
+loop-holds c = (refl, going-none _ _ _ _ _ _ _ _ (omega arith))
 
 same-layer-vertices-requires : tie.Need-same-layer-vertices-requires Inv-loop μ-loop
 unfolding edgesBy
@@ -51,7 +51,7 @@ same-layer-vertices-requires c κs =
     let p = s .pre in
     let f = p .1 .1 .1 in
     let g = l .loop .inv .1 in
-    let long = going-long _ _ _ _ _ _ _ _ _ _ g in (
+    let long = going-long _ _ _ _ _ _ _ _ _ _ _ g in (
       (p .0 .0, t .loop-test .taken, omega (arith, p .0 .1, long)),
       (
         p .1 .0,
@@ -65,7 +65,7 @@ same-layer-vertices-requires c κs =
 same-length : tie.Need-same-length Inv-loop μ-loop
 same-length c =
     let p = c .before .before .before .before in
-    p .same-layer-vertices .ensures .beyond .same-length ∙ going-long _ _ _ _ _ _ _ _ _ _ (at-loop p .loop .inv .1)
+    p .same-layer-vertices .ensures .beyond .same-length ∙ going-long _ _ _ _ _ _ _ _ _ _ _ (at-loop p .loop .inv .1)
 
 same-length-2 : tie.Need-same-length-2 Inv-loop μ-loop
 same-length-2 c = c .before .row .given ∙ at-loop (c .before .before .before .before) .loop .inv .0
@@ -73,7 +73,7 @@ same-length-2 c = c .before .row .given ∙ at-loop (c .before .before .before .
 returns : tie.Need-returns Inv-loop μ-loop
 returns c =
     let p = c .before .before .before .before in
-    going-differs _ _ _ _ _ _ _ _ _ _ (at-loop p .loop .inv .1) _ _ (c .if1 .taken) (p .same-layer-vertices .ensures) _
+    going-differs _ _ _ _ _ _ _ _ _ _ _ (at-loop p .loop .inv .1) _ _ (c .if1 .taken) (p .same-layer-vertices .ensures) _
 
 add-z : tie.Need-add-z Inv-loop μ-loop
 add-z c = search needs
@@ -86,18 +86,18 @@ loop-again c =
     let p = c .before .before .before .before in
     let l = at-loop p in
     let h = c .if1 .left in
-    let g = going-more _ _ _ _ _ _ _ _ _ _ (l .loop .inv .1) _ _ (omega arith) (omega arith) (p .same-layer-vertices .ensures) in
+    let g = going-more _ _ _ _ _ _ _ _ _ _ _ (l .loop .inv .1) _ _ (omega arith) (omega arith) (p .same-layer-vertices .ensures) in
     (c .before .row .given ∙ l .loop .inv .0, g)
 
 same-length-3 : tie.Need-same-length-3 Inv-loop μ-loop
-same-length-3 c = going-long _ _ _ _ _ _ _ _ _ _ (c .before .loop .inv .1)
+same-length-3 c = going-long _ _ _ _ _ _ _ _ _ _ _ (c .before .loop .inv .1)
 
 same-length-4 : tie.Need-same-length-4 Inv-loop μ-loop
 same-length-4 c = c .before .loop .inv .0
 
 returns-2 : tie.Need-returns-2 Inv-loop μ-loop
 unfolding edgesBy
-returns-2 c = going-all _ _ _ _ _ _ _ _ _ _ (c .before .loop .inv .1) (omega arith)
+returns-2 c = going-all _ _ _ _ _ _ _ _ _ _ _ (c .before .loop .inv .1) (omega arith)
 
 pub same-layers-vertices-spec : {M : Type 1} → statement M
 same-layers-vertices-spec =

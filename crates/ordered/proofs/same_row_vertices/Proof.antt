@@ -71,7 +71,7 @@ returns : tie.Need-returns
 returns c =
     let p = c .before .before .before .before in
     let s = entry (p .before) in
-    listing-differs (volume s) (file s) (s .args .nv) (edges s) (below s) (s .args .at) (lent s) (p .put-row-at .result) _
+    listing-differs (s .args .rule) (volume s) (file s) (s .args .nv) (edges s) (below s) (s .args .at) (lent s) (p .put-row-at .result) _
     (p .put-row-at .ensures) (p .put-row-at .result) (c .if1 .taken)
 
 mul-same-vertex-words : tie.Need-mul-same-vertex-words
@@ -90,7 +90,7 @@ same-vertex-words-requires c κs =
     let s = entry (p .before) in
     let f = s .pre .1 .1 .1 in
     let D = p .put-row-at .ensures in
-    let long = draws-long (volume s) (s .args .at) (s .args .at) (lent s) (edges s) _ _ D .0 in
+    let long = draws-long (s .args .rule) (volume s) (s .args .at) (s .args .at) (lent s) (edges s) _ _ D .0 in
     (f .0, omega (arith, e .if1 .left, f .1, D .next-is), omega (arith, few s, D .next-is, long, f .3))
 
 add-result : tie.Need-add-result
@@ -106,7 +106,7 @@ returns-2 : tie.Need-returns-2
 returns-2 c =
     let p = c .before .before .before .before .before .before .before in
     let s = entry (p .before) in
-    listing-differs (volume s) (file s) (s .args .nv) (edges s) (below s) (s .args .at) (lent s) (p .put-row-at .result) _
+    listing-differs (s .args .rule) (volume s) (file s) (s .args .nv) (edges s) (below s) (s .args .at) (lent s) (p .put-row-at .result) _
     (p .put-row-at .ensures) _ (omega arith)
 
 same-length-5 : tie.Need-same-length-5
@@ -120,7 +120,7 @@ returns-3 c =
     let w = c .before in
     let p = w .before .before .before .before .before .before in
     let s = entry (p .before) in
-    listing-same (volume s) (file s) (s .args .nv) (edges s) (below s) (s .args .at) (lent s) (p .put-row-at .result) _
+    listing-same (s .args .rule) (volume s) (file s) (s .args .nv) (edges s) (below s) (s .args .at) (lent s) (p .put-row-at .result) _
     (p .put-row-at .ensures) (few s) (s .pre .1 .1 .1 .3) _ refl (w .same-vertex-words .ensures (not-false _ (c .if2 .left)))
 
 pub same-row-vertices-spec : {M : Type 1} → statement M

@@ -30,7 +30,7 @@ returns c =
     let s = v .before .before .before .before .before in
     let A = w .same-layers-vertices .ensures in
     let long = vertices-length (now (s .args .bytes)) in
-    (λ e. listing-all _ _ _ _ _ _ _ A (omega (arith, long, v .vertex-count .ensures .0)) (eqb-true _ _ e), A .beyond)
+    (λ e. listing-all _ _ _ _ _ _ _ _ A (omega (arith, long, v .vertex-count .ensures .0)) (eqb-true _ _ e), A .beyond)
 
 pub same-vertices-spec : {M : Type 1} → statement M
 same-vertices-spec =

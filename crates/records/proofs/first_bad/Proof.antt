@@ -18,10 +18,13 @@ use Rattle.records.proofs.first_bad.Statement.{statement}
 use Rattle.records.proofs.first_bad.Tie as tie
 
 abbrev Inv-loop : tie.InvT-loop
-Inv-loop samples sizes bytes slots₀ n nv i₀ slots i = let L = lattice sizes samples in let vs = fileVertices bytes in (i ≤ nv) × (slots ≡ slotsAfter L vs slots₀ i) × ((k : ℕ) → k < i → badIn L vs slots₀ k ≡ false)
+Inv-loop rule samples sizes bytes slots₀ n nv i₀ slots i =
+    let L = lattice sizes samples in
+    let vs = fileVertices bytes in
+    (i ≤ nv) × (slots ≡ slotsAfter L vs slots₀ i) × ((k : ℕ) → k < i → badIn rule L vs slots₀ k ≡ false)
 
 abbrev μ-loop : tie.MeasureT-loop
-μ-loop samples sizes bytes slots₀ n nv i₀ slots i = nv - i
+μ-loop rule samples sizes bytes slots₀ n nv i₀ slots i = nv - i
 
 abbrev L : tie.Start Inv-loop μ-loop → Lattice
 L s = lattice (s .args .sizes) (now (s .args .samples))
@@ -34,22 +37,22 @@ long c = let s = c .before .before .before .before .before in ap length (c .loop
 
 -- the code's edge is that of the record, with the slots as they are
 edge : (c : tie.After-good-edge Inv-loop μ-loop) → let s = c .before .before .before .before .before .before .before .before in let i = c .before .before .before .loop .i in
-    c .good-edge .result ≡ goodEdge (L s) (vs s) (slotsAfter (L s) (vs s) (now (s .args .slots)) i) i
+    c .good-edge .result ≡ goodEdge (s .args .rule) (L s) (vs s) (slotsAfter (L s) (vs s) (now (s .args .slots)) i) i
 edge c =
     let s = c .before .before .before .before .before .before .before .before in
     let i = c .before .before .before .loop .i in
-    c .good-edge .ensures ∙ ap (λ (l : List ℕ). goodEdge (L s) (vs s) l i) (c .before .before .before .loop .inv .1)
+    c .good-edge .ensures ∙ ap (λ (l : List ℕ). goodEdge (s .args .rule) (L s) (vs s) l i) (c .before .before .before .loop .inv .1)
 
 all : (c : tie.After-good-edge Inv-loop μ-loop) → 7 * c .before .before .before .before .before .sample-count .result ≡ neededSlots (c .before .before .before .before .before .before .before .before .args .sizes)
 all c = ap (λ (n : ℕ). 7 * n) (c .before .before .before .before .before .sample-count .ensures .0)
 
 found : (c : tie.Else1 Inv-loop μ-loop) → let s = c .before .before .before .before .before .before .before .before .before in let i = c .before .before .before .before .loop .i in
-    Found (L s) (vs s) (slotsAfter (L s) (vs s) (now (s .args .slots)) i) i
+    Found (s .args .rule) (L s) (vs s) (slotsAfter (L s) (vs s) (now (s .args .slots)) i) i
 found c =
     let at-loop = c .before .before .before .before in
     let s = at-loop .before .before .before .before .before in
     let i = at-loop .loop .i in
-    record-good (L s) (vs s) (slotsAfter (L s) (vs s) (now (s .args .slots)) i) i (λ q. c .if1 .left (edge (c .before) ∙ (q ∙ sym (all (c .before)))))
+    record-good (s .args .rule) (L s) (vs s) (slotsAfter (L s) (vs s) (now (s .args .slots)) i) i (λ q. c .if1 .left (edge (c .before) ∙ (q ∙ sym (all (c .before)))))
 
 below : (c : tie.Else1 Inv-loop μ-loop) → c .before .good-edge .result < neededSlots (c .before .before .before .before .before .before .before .before .before .args .sizes)
 below c =
@@ -86,8 +89,8 @@ returns c =
     let i = at-loop .loop .i in
     let l = slotsAfter (L s) (vs s) (now (s .args .slots)) i in
     let v = at-vertex-count .vertex-count .ensures .0 in
-    let b = record-bad (L s) (vs s) l i (sym (edge (c .before)) ∙ (c .if1 .taken ∙ all (c .before))) in
-    (first-found (badIn (L s) (vs s) (now (s .args .slots))) (fileV (now (s .args .bytes))) i (omega (arith, v, c .before .before .before .loop-test .taken)) (at-loop .loop .inv .2) (ap not b), at-loop .loop .inv .1)
+    let b = record-bad (s .args .rule) (L s) (vs s) l i (sym (edge (c .before)) ∙ (c .if1 .taken ∙ all (c .before))) in
+    (first-found (badIn (s .args .rule) (L s) (vs s) (now (s .args .slots))) (fileV (now (s .args .bytes))) i (omega (arith, v, c .before .before .before .loop-test .taken)) (at-loop .loop .inv .2) (ap not b), at-loop .loop .inv .1)
 
 mul-slots : tie.Need-mul-slots Inv-loop μ-loop
 mul-slots c = omega (arith, below c, all (c .before), c .before .before .before .before .before .before .sample-count .ensures)
@@ -122,7 +125,7 @@ returns-2 c =
     let s = c .before .before .before .before .before .before in
     let e : c .before .loop .i ≡ c .before .before .vertex-count .result = omega (arith, c .before .loop .inv .0, c .loop-test .left) in
     let q = e ∙ c .before .before .vertex-count .ensures .0 in
-    (c .before .before .vertex-count .ensures .0 ∙ first-missing (badIn (L s) (vs s) (now (s .args .slots))) (fileV (now (s .args .bytes))) (λ k h. c .before .loop .inv .2 k (omega arith)), c .before .loop .inv .1 ∙ ap (slotsAfter (L s) (vs s) (now (s .args .slots))) e)
+    (c .before .before .vertex-count .ensures .0 ∙ first-missing (badIn (s .args .rule) (L s) (vs s) (now (s .args .slots))) (fileV (now (s .args .bytes))) (λ k h. c .before .loop .inv .2 k (omega arith)), c .before .loop .inv .1 ∙ ap (slotsAfter (L s) (vs s) (now (s .args .slots))) e)
 
 pub first-bad-spec : {M : Type 1} → statement M
 first-bad-spec =

@@ -64,11 +64,11 @@ back c =
 
 -- the record is compared with the vertex's
 compared : (c : tie.After-same-record) → let s = c .before .before .before .before .before .before .before .before .before .before .before in
-    c .same-record .result ≡ sameNumbers (recordOf (vs s) (s .args .i)) (vertexRecord (L s) (edgeAt (L s) (vs s) (s .args .i)))
+    c .same-record .result ≡ sameNumbers (recordOf (vs s) (s .args .i)) (vertexRecord (s .args .rule) (L s) (edgeAt (L s) (vs s) (s .args .i)))
 compared c =
     let past = c .before .before .before .before .before .before in
     let s = past .before .before .before .before .before in
-    c .same-record .ensures ∙ ap (sameNumbers (recordOf (vs s) (s .args .i))) (c .before .vertex-on .ensures ∙ ap (vertexRecord (L s)) (back (c .before .before) ∙ edge past))
+    c .same-record .ensures ∙ ap (sameNumbers (recordOf (vs s) (s .args .i))) (c .before .vertex-on .ensures ∙ ap (vertexRecord (s .args .rule) (L s)) (back (c .before .before) ∙ edge past))
 
 sample-count-requires : tie.Need-sample-count-requires
 sample-count-requires c κs = search needs
@@ -86,7 +86,10 @@ edge-in-requires : tie.Need-edge-in-requires
 edge-in-requires c κs = search needs
 
 returns : tie.Need-returns
-returns c = all (c .before) ∙ edge-out (L (c .before .before .before .before .before .before)) (vs (c .before .before .before .before .before .before)) (now (c .before .before .before .before .before .before .args .slots)) (c .before .before .before .before .before .before .args .i) (sym (edge (c .before)) ∙ (c .if1 .taken ∙ all (c .before)))
+returns c =
+    let s = c .before .before .before .before .before .before in
+    let at = c .before in
+    all at ∙ edge-out (s .args .rule) (L s) (vs s) (now (s .args .slots)) (s .args .i) (sym (edge at) ∙ (c .if1 .taken ∙ all at))
 
 mul-if2 : tie.Need-mul-if2
 mul-if2 c = search needs
@@ -97,7 +100,7 @@ shared-slice-read-if2 c = search needs
 returns-2 : tie.Need-returns-2
 returns-2 c =
     let s = c .before .before .before .before .before .before .before .before in
-    all (c .before .before .before) ∙ edge-idle (L s) (vs s) (now (s .args .slots)) (s .args .i) (ap (λ (e : ℕ). getD (now (s .args .slots)) e 0) (sym (edge (c .before .before .before))) ∙ c .if2 .taken)
+    all (c .before .before .before) ∙ edge-idle (s .args .rule) (L s) (vs s) (now (s .args .slots)) (s .args .i) (ap (λ (e : ℕ). getD (now (s .args .slots)) e 0) (sym (edge (c .before .before .before))) ∙ c .if2 .taken)
 
 anchor-of-requires : tie.Need-anchor-of-requires
 anchor-of-requires c κs =
@@ -118,7 +121,7 @@ returns-3 : tie.Need-returns-3
 returns-3 c =
     let past = c .before .before .before .before .before .before .before in
     let s = past .before .before .before .before .before in
-    all past ∙ edge-wrong (L s) (vs s) (now (s .args .slots)) (s .args .i) (sym (compared (c .before)) ∙ not-true _ (c .if3 .taken))
+    all past ∙ edge-wrong (s .args .rule) (L s) (vs s) (now (s .args .slots)) (s .args .i) (sym (compared (c .before)) ∙ not-true _ (c .if3 .taken))
 
 returns-4 : tie.Need-returns-4
 returns-4 c =
@@ -127,7 +130,7 @@ returns-4 c =
     let past₂ = past .before in
     let s = past₂ .before .before .before .before .before in
     let q = edge past₂ in
-    q ∙ edge-right (L s) (vs s) (now (s .args .slots)) (s .args .i) (subst (λ (e : ℕ). e < neededSlots (s .args .sizes)) q (below past))
+    q ∙ edge-right (s .args .rule) (L s) (vs s) (now (s .args .slots)) (s .args .i) (subst (λ (e : ℕ). e < neededSlots (s .args .sizes)) q (below past))
     (λ u. at-if2 .if2 .left (ap (λ (e : ℕ). getD (now (s .args .slots)) e 0) q ∙ u)) (sym (compared (c .before)) ∙ not-false _ (c .if3 .left))
 
 pub good-edge-spec : {M : Type 1} → statement M

@@ -83,10 +83,10 @@ returns c =
     let vs = now (b .args .vis) in
     let e : l .loop .z ≡ n .nz = omega arith in
     record {
-      vertices = λ s start h v. i .vertices
-          ∙ (ap (total (layerVertices n ws vs)) e ∙ vertices-are (lattice n s) (b .pre .0) ws vs start h v);
-      triangles = λ s start h v. i .triangles
-          ∙ (ap (total (layerTriangles n ws vs)) e ∙ triangles-are (lattice n s) (b .pre .0) ws vs start h v);
+      vertices = λ rule s start h v. i .vertices
+          ∙ (ap (total (layerVertices n ws vs)) e ∙ vertices-are (lattice n s) (b .pre .0) ws vs start h v rule);
+      triangles = λ rule s start h v. i .triangles
+          ∙ (ap (total (layerTriangles n ws vs)) e ∙ triangles-are (lattice n s) (b .pre .0) ws vs start h v rule);
     }
 
 pub counts-of-spec : {M : Type 1} → statement M

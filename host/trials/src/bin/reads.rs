@@ -38,7 +38,7 @@ fn call(name: &str, own: Lattice, start: [usize; 3], file: &[u8], [nv, nt]: [usi
     match name {
         "build" => Some(abi::build(own, &mut vertices, &mut triangles, work).number),
         "named" => Some(abi::build(named, &mut vertices, &mut triangles, work).number),
-        "check" => Some(abi::check(own, file, work).number),
+        "check" => Some(abi::check(abi::Rule::Nearest, own, file, work).number),
         "pieces" => Some(abi::pieces(own.sizes, own.samples, &mut vec![0; room::cubes(own.sizes)], work).number),
         "second" => {
             let abi::Work { words, waiting, slots } = work;

@@ -1,6 +1,6 @@
 //! `stack [ROUNDS]`: the most stack that each function of the library took, on the benchmark's volumes and on random cases.
 
-use host::abi;
+use host::abi::{self, Rule};
 use std::collections::BTreeMap;
 use std::process::ExitCode;
 use trials::cases::{case, content, output_room, sheet_counts, sizes, Case, Lent};
@@ -28,7 +28,7 @@ impl Depths {
     /// A build in a room, a check of a file, and a search for pieces.
     fn lattice(&mut self, case: &Case, lent: &mut Lent, file: &[u8]) {
         self.call("build", || lent.library_build(case));
-        self.call("check", || lent.library_check(case, file));
+        self.call("check", || lent.library_check(Rule::Nearest, case, file));
         self.call("pieces", || lent.library_pieces(case));
     }
 

@@ -1,7 +1,7 @@
 //! The buffers of all calls, as long as the largest lattice may need, and the calls on them.
 
 use baseline::Lent;
-use host::abi::{self, Work};
+use host::abi::{self, Rule, Work};
 use trials::cases::{in_c, sizes, Case};
 
 pub struct Buffers {
@@ -72,7 +72,7 @@ impl Buffers {
 
     pub fn check(&mut self, case: &Case, file: &[u8]) -> usize {
         let work = Work { words: &mut self.words, waiting: &mut self.waiting, slots: &mut self.slots };
-        abi::check(case.lattice(), file, work).number
+        abi::check(Rule::Nearest, case.lattice(), file, work).number
     }
 
     /// Answers the number and how many pieces there are.
@@ -97,6 +97,6 @@ impl Buffers {
 
     pub fn second_check(&mut self, case: &Case, file: &[u8]) -> usize {
         let mut work = second::Work { words: &mut self.words, waiting: &mut self.waiting, slots: &mut self.slots };
-        second::check(case.volume(), file, &mut work).number
+        second::check(second::Rule::Nearest, case.volume(), file, &mut work).number
     }
 }
