@@ -57,11 +57,11 @@ impl Cubes<'_> {
         room::cube_number(self.volume.sizes, place(cube))
     }
 
-    fn sample(&self, [x, y, z]: [usize; 3]) -> i16 {
+    pub fn sample(&self, [x, y, z]: [usize; 3]) -> i16 {
         self.volume.samples[x + self.sizes[0] * (y + self.sizes[1] * z)]
     }
 
-    fn is_air(&self, at: [usize; 3]) -> bool {
+    pub fn is_air(&self, at: [usize; 3]) -> bool {
         self.sample(at) > 0
     }
 
@@ -170,7 +170,7 @@ impl Cubes<'_> {
     }
 
     /// The ends of an edge by its number; nothing where it is no edge of the lattice.
-    fn ends(&self, edge: i32) -> Option<[[usize; 3]; 2]> {
+    pub fn ends(&self, edge: i32) -> Option<[[usize; 3]; 2]> {
         let edge = usize::try_from(edge).ok()?;
         let [nx, ny, _] = self.sizes;
         let anchor = [edge / 7 % nx, edge / 7 / nx % ny, edge / 7 / nx / ny];

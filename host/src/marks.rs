@@ -1,7 +1,8 @@
 //! Which triangles of a file are wrong, one by one. The sheet to compare with is the library's own, with its positions rounded
 //! down here where a file was made under that rule, since the library builds to nearest alone.
 
-use crate::abi::{Place, Rule, Sizes, Start};
+use crate::abi::{Place, Rule, Start};
+use crate::cubes::Cubes;
 use crate::room::Room;
 use crate::sheet::Sheet;
 use crate::volume::Volume;
@@ -37,26 +38,11 @@ impl Marks {
     }
 }
 
-/// The ends of each kind of edge, from its anchor.
-const ENDS: [[[usize; 3]; 2]; 7] = [
-    [[0, 0, 0], [1, 0, 0]],
-    [[0, 0, 0], [0, 1, 0]],
-    [[0, 0, 0], [0, 0, 1]],
-    [[0, 1, 0], [0, 0, 1]],
-    [[1, 0, 0], [0, 0, 1]],
-    [[0, 1, 0], [1, 0, 0]],
-    [[1, 1, 0], [0, 0, 1]],
-];
-
 /// The record of the vertex on an edge of a volume, its position rounded down.
-fn rounded_down(edge: i32, volume: &Volume) -> Option<[i32; 4]> {
-    let Sizes { nx, ny, .. } = volume.sizes;
-    let (anchor, kind) = (edge as usize / 7, edge as usize % 7);
-    let at = [anchor % nx, anchor / nx % ny, anchor / nx / ny];
-    let [from, to] = ENDS[kind].map(|end| [at[0] + end[0], at[1] + end[1], at[2] + end[2]]);
-    let sample = |[x, y, z]: [usize; 3]| volume.samples.get(x + nx * (y + ny * z)).map(|sample| i64::from(*sample));
-    let (solid, air) = if sample(from)? > 0 { (to, from) } else { (from, to) };
-    let (p, q) = (sample(solid)?, sample(air)?);
+fn rounded_down(edge: i32, cubes: &Cubes) -> Option<[i32; 4]> {
+    let [from, to] = cubes.ends(edge)?;
+    let (solid, air) = if cubes.is_air(from) { (to, from) } else { (from, to) };
+    let [p, q] = [solid, air].map(|end| i64::from(cubes.sample(end)));
     let t = 65_536 * -p / (q - p);
     let on = |axis: usize| (65_536 * solid[axis] as i64 + (air[axis] as i64 - solid[axis] as i64) * t) as i32;
     Some([edge, on(0), on(1), on(2)])
@@ -69,7 +55,8 @@ fn sheet_under(rule: Rule, volume: &Volume, start: Start, room: &mut Room) -> Op
         return None;
     }
     if rule == Rule::Down {
-        let records: Option<Vec<[i32; 4]>> = sheet.records().map(|record| rounded_down(record[0], volume)).collect();
+        let cubes = Cubes::of(volume)?;
+        let records: Option<Vec<[i32; 4]>> = sheet.records().map(|record| rounded_down(record[0], &cubes)).collect();
         sheet.vertices = records?.concat();
     }
     Some(sheet)

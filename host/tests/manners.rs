@@ -39,7 +39,7 @@ fn a_hundred_runs_hit_by_signals_leave_no_torn_and_no_stray_file() {
         }
         let before = fs::read(folder.0.join("s.sheet")).ok();
         let mut child = Command::new(TOOL)
-            .args(["build", "v.vol", "s.sheet"])
+            .args(["build", "v.vol", "s.sheet", "--start", "lowest"])
             .current_dir(&folder.0)
             .stdout(Stdio::null())
             .stderr(Stdio::null())

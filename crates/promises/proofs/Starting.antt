@@ -66,14 +66,6 @@ module _ (L : Lattice) where
 -- ── the lowest by name ──
 
 module _ (L : Lattice) where
-  old-tests : (n : Lengths) → sampleTests L Lowest n ≡ oldTests L n
-  unfolding sampleTests startTests oldTests
-  old-tests n = refl
-
-  old-start : startOf L Lowest ≡ oldStart L
-  unfolding lowest oldStart
-  old-start = refl
-
   pub old-builds : {before : Lent} {r : Built} {after : Lent} → Builds L Lowest before r after → OldBuilds L before r after
   unfolding sampleTests startTests oldTests lowest oldStart buildNumber built lentAfter oldNumber
   old-builds b = record { answer = b .answer; left = b .left }
