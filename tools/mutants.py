@@ -38,12 +38,20 @@ TOKEN = re.compile(r"\d+|\.[a-z]+|[A-Za-z][A-Za-z0-9']*|&&|\|\||\+\+|[-+*/%]")
 
 def definitions(text):
     """The lines of bodies, each with the name of its definition."""
-    name, body = None, False
+    name, body, opened = None, False, None
     for number, line in enumerate(text.split('\n')):
-        if re.match(r'\s*(--|use |pub mod|module )', line) or not line.strip():
+        # the names that a definition unfolds, over one line or several
+        depth = len(line) - len(line.lstrip())
+        opened = depth if line.lstrip().startswith('unfolding') else opened if opened is not None and depth > opened else None
+        if opened is not None or re.match(r'\s*(--|use |pub mod|module )', line) or not line.strip():
             continue
         head = re.match(r'\s*(?:unfoldable |abbrev )?(?:pub )?(?:record )?([A-Za-z0-9]+)( :|\s)', line)
         declared = re.match(r'\s*(unfoldable |abbrev |pub |data )', line)
+        if re.match(r'worked', line):
+            # a worked value, up to the next definition
+            name = None
+        if name is None and not declared:
+            continue
         if declared:
             name, body = head.group(1) if head else name, False
             record = re.match(r'\s*(?:pub )?record (\S+)', line)
@@ -59,7 +67,7 @@ def definitions(text):
 def changes(path):
     """(line number, column, old, new, definition) for each change of a file."""
     for number, at, name, line in definitions(open(path, encoding='utf-8').read()):
-        if line.lstrip().startswith(('unfolding', 'worked', 'pub ')):
+        if line.lstrip().startswith(('worked', 'pub ')):
             continue
         for token in TOKEN.finditer(line, at):
             old = token.group()

@@ -61,15 +61,22 @@ module _ (rule : Rule) (L : Lattice) (s : Sized (L .size)) (start : ℕ) where
   words-fit =
       all-getD (SFits w32) vw (pos 0) (record { sfits = omega arith })
       (subst (All (SFits w32)) (sym (vertex-words rule L start))
-      (all-each (SFits w32) (vertexRecord rule L) (S .edges) (fits (S .edges) (sheet-positioned rule L s start) (sheet-edges-lt rule L start))))
+      (all-each (SFits w32) (vertexRecord rule L) (S .edges)
+      (fits (S .edges) (sheet-positioned rule L s start) (sheet-edges-lt rule L start))))
     where
-      fits : (l : List ℕ) → All (Positioned rule L) l → All (λ e. e < edgeNumbers (L .size)) l → All (λ e. All (SFits w32) (vertexRecord rule L e)) l
+      fits : (l : List ℕ) → All (Positioned rule L) l → All (λ e. e < edgeNumbers (L .size)) l
+          → All (λ e. All (SFits w32) (vertexRecord rule L e)) l
       fits [] p q = tt
       fits (e ∷ l) p q =
           let r = p .0 in
           let f = samples-few (L .size) s in (
-            subst (All (SFits w32)) (sym (r .is))
-                (record { sfits = omega (arith, q .0) }, (record { sfits = omega (arith, r .x-le) }, (record { sfits = omega (arith, r .y-le) }, (record { sfits = omega (arith, r .z-le) }, tt)))),
+            subst (All (SFits w32)) (sym (r .is)) (
+              record { sfits = omega (arith, q .0) },
+              (
+                record { sfits = omega (arith, r .x-le) },
+                (record { sfits = omega (arith, r .y-le) }, (record { sfits = omega (arith, r .z-le) }, tt)),
+              ),
+            ),
             fits l (p .1) (q .1),
           )
 
@@ -77,8 +84,11 @@ module _ (rule : Rule) (L : Lattice) (s : Sized (L .size)) (start : ℕ) where
   holding : (bs : List ℕ) → Holds bs (L .size) nv nt vw tw → Holding rule L start bs
   unfolding fileRecords fileTriples
   holding bs h = record {
-    vertices = λ r. ap (count (sameNumbers r)) ((λ j. map (recordOf (h .vertices j)) (range 0 (h .count-v j))) ∙ records-are rule L s start);
-    triangles = λ t. ap (count (turned t)) ((λ j. map (triangleOf (h .vertices j) (h .triangles j)) (range 0 (h .count-t j))) ∙ triangles-are rule L s start);
+    vertices =
+        λ r. ap (count (sameNumbers r)) ((λ j. map (recordOf (h .vertices j)) (range 0 (h .count-v j))) ∙ records-are rule L s start);
+    triangles =
+        λ t. ap (count (turned t))
+        ((λ j. map (triangleOf (h .vertices j) (h .triangles j)) (range 0 (h .count-t j))) ∙ triangles-are rule L s start);
   }
 
 -- ── build, then write, then check ──
@@ -91,7 +101,8 @@ pub record Made (L : Lattice) (s : Start) (before : Lent) (r : Built) (after : L
   pub vertex-words : after .vertices ≡ over (vertexWords (sheetFrom L s)) (before .vertices)
   pub triangle-words : after .triangles ≡ over (triangleWords (sheetFrom L s)) (before .triangles)
 
-pub made : {L : Lattice} {s : Start} {before : Lent} {r : Built} {after : Lent} → Builds L s before r after → r .number ≡ 0 → Made L s before r after
+pub made : {L : Lattice} {s : Start} {before : Lent} {r : Built} {after : Lent}
+    → Builds L s before r after → r .number ≡ 0 → Made L s before r after
 unfolding lentAfter outputAfter
 made {L} {s} {before} {r} {after} b e =
     let z : built L s before .number ≡ 0 = sym (ap (λ (x : Built). x .number) (b .answer)) ∙ e in
@@ -119,15 +130,19 @@ module _ (rule : Rule) (L : Lattice) (sz : Sized (L .size)) (start : ℕ) (old :
   same-file : fileBytes (contentOf (L .size) V′ N′ (over (vertexWords T′) old) (over (triangleWords T′) old′))
       ≡ fileBytes (contentOf (L .size) V′ N′ (vertexWords T′) (triangleWords T′))
   same-file =
-      let a = take-append-le (4 * V′) (vertexWords T′) (drop (length (vertexWords T′)) old) (omega (arith, vertex-words-length rule L start)) in
-      let b = take-append-le (3 * N′) (triangleWords T′) (drop (length (triangleWords T′)) old′) (omega (arith, triangle-words-length T′)) in
+      let a =
+      take-append-le (4 * V′) (vertexWords T′) (drop (length (vertexWords T′)) old) (omega (arith, vertex-words-length rule L start)) in
+      let b =
+      take-append-le (3 * N′) (triangleWords T′) (drop (length (triangleWords T′)) old′) (omega (arith, triangle-words-length T′)) in
       λ j. fileBytes (record { sizes = L .size; vertices = V′; triangles = N′; vertexWords = a j; triangleWords = b j })
 
   -- which a reader gets back
   reads-back : writeVerdict (L .size) V′ N′ (over (vertexWords T′) old) (over (triangleWords T′) old′) room .number ≡ 0
-      → Holds (fileBytes (contentOf (L .size) V′ N′ (vertexWords T′) (triangleWords T′))) (L .size) V′ N′ (take (4 * V′) (vertexWords T′)) (take (3 * N′) (triangleWords T′))
+      → let file = fileBytes (contentOf (L .size) V′ N′ (vertexWords T′) (triangleWords T′)) in
+      Holds file (L .size) V′ N′ (take (4 * V′) (vertexWords T′)) (take (3 * N′) (triangleWords T′))
   reads-back e =
-      let t = taken (L .size) V′ N′ (over (vertexWords T′) old) (over (triangleWords T′) old′) room e in
+      let tw = triangleWords T′ in
+      let t = taken (L .size) V′ N′ (over (vertexWords T′) old) (over tw old′) room e in
       let u : Taken (L .size) V′ N′ (vertexWords T′) (triangleWords T′) room =
       record {
         sized = t .sized;
@@ -137,8 +152,8 @@ module _ (rule : Rule) (L : Lattice) (sz : Sized (L .size)) (start : ℕ) (old :
           room-v = omega (arith, vertex-words-length rule L start);
           room-t = omega (arith, triangle-words-length T′);
         };
-        good = first-same V′ N′ (over (triangleWords T′) old′) (triangleWords T′)
-            (λ i h. sym (List·getD-append (triangleWords T′) (drop (length (triangleWords T′)) old′) 0 i (omega (arith, triangle-words-length T′)))) (t .good);
+        good = first-same V′ N′ (over tw old′) tw
+            (λ i h. sym (List·getD-append tw (drop (length tw) old′) 0 i (omega (arith, triangle-words-length T′)))) (t .good);
         roomy = t .roomy;
       } in
       written (L .size) V′ N′ (vertexWords T′) (triangleWords T′) room (words-fit rule L sz start)
@@ -167,7 +182,12 @@ sheet-accepted rule L s n h old old′ bytes bytes′ w write f =
     (take-all (3 * nt) (triangleWords S) (omega (arith, triangle-words-length S))) q) in
     subst (λ (x : List ℕ). checked rule L s x n .number ≡ 0) (sym same)
     (accepted-exactly rule L s file n .always
-    (record { samples = h; file = ap (λ (v : Verdict). v .number) (k .passes); sizes = k .sizes; holds = holding rule L (t .sizes) start file k }))
+    (record {
+      samples = h;
+      file = ap (λ (v : Verdict). v .number) (k .passes);
+      sizes = k .sizes;
+      holds = holding rule L (t .sizes) start file k;
+    }))
 
 -- so is what a build and then a write make, under the rule that a build follows
 pub built-accepted : {L : Lattice} {s : Start} {before : Lent} {r : Built} {after : Lent} {bytes bytes′ : List ℕ} {w : Wrote}

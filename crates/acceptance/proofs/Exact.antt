@@ -21,7 +21,8 @@ use Rattle.paper.proofs.Records.{numbers-same}
 use Rattle.paper.proofs.Tested.{compared, compared-back}
 use Rattle.paper.proofs.Passing.{sample-numbered, sample-passed, sample-tests, file-numbered, all-passed}
 use Rattle.holding.proofs.Alike.{often, matching}
-use Rattle.holding.proofs.Matches.{same-sizes, sizes-same, thin, Match, passes-match, match-passes, thin-us, MatchTri, passes-tri, tri-passes}
+use Rattle.holding.proofs.Matches.{same-sizes, sizes-same, thin, Match, passes-match}
+use Rattle.holding.proofs.Matches.{match-passes, thin-us, MatchTri, passes-tri, tri-passes}
 use Rattle.acceptance.specs.Holding.{fileRecords, fileTriples, Acceptable, Exactly, EachOnce}
 
 module _ (rule : Rule) (L : Lattice) (s : Start) (bs : List ℕ) (m : Lengths) where
@@ -56,8 +57,10 @@ module _ (rule : Rule) (L : Lattice) (s : Start) (bs : List ℕ) (m : Lengths) w
         file = zero b (p .1);
         sizes = same-sizes (fileSizes bs) (L .size) (k .sizes);
         holds = record {
-          vertices = often _ _ _ _ _ _ _ _ (passes-match rule L start vs (fileV bs) (record { good = k .records; full = k .full .vertices }));
-          triangles = often _ _ _ _ _ _ _ _ (passes-tri rule L (t .sizes) start (t .start) vs ts (fileT bs) (record { good = k .triangles; full = k .full .triangles }));
+          vertices = often _ _ _ _ _ _ _ _
+              (passes-match rule L start vs (fileV bs) (record { good = k .records; full = k .full .vertices }));
+          triangles = often _ _ _ _ _ _ _ _
+              (passes-tri rule L (t .sizes) start (t .start) vs ts (fileT bs) (record { good = k .triangles; full = k .full .triangles }));
         };
       }
 
@@ -77,7 +80,8 @@ module _ (rule : Rule) (L : Lattice) (s : Start) (bs : List ℕ) (m : Lengths) w
         triangles = u .good;
         full = record { vertices = v .full; triangles = u .full };
       }) in
-      zero (a ++ b ++ c) (both-passed (a ++ b) c (both-passed a b (judge-all a (sample-numbered L s m) (h .samples)) (judge-all b (file-numbered bs) (h .file))) last)
+      let first = both-passed a b (judge-all a (sample-numbered L s m) (h .samples)) (judge-all b (file-numbered bs) (h .file)) in
+      zero (a ++ b ++ c) (both-passed (a ++ b) c first last)
 
   -- the theorem
   pub accepted-exactly : Exactly rule L s bs m

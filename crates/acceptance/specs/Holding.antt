@@ -45,4 +45,5 @@ pub record EachOnce (rule : Rule) (L : Lattice) (start : ℕ) (bs : List ℕ) : 
   pub vertex : (r : List ℤ) → In r (sheetOf rule L start .records) → count (sameNumbers r) (fileRecords bs) ≡ 1
   pub only-vertices : (i : ℕ) → i < fileV bs → T (any (sameNumbers (recordOf (fileVertices bs) i)) (sheetOf rule L start .records))
   pub triangle : (t : Tri) → T (any (turned t) (sheetOf rule L start .byEdge)) → count (turned t) (fileTriples bs) ≡ 1
-  pub only-triangles : (i : ℕ) → i < fileT bs → T (any (turned (triangleOf (fileVertices bs) (fileTriangles bs) i)) (sheetOf rule L start .byEdge))
+  pub only-triangles : (i : ℕ) → i < fileT bs
+      → T (any (turned (triangleOf (fileVertices bs) (fileTriangles bs) i)) (sheetOf rule L start .byEdge))

@@ -121,7 +121,10 @@ module _ (z : Sizes) (rows may : List ℕ) (b : Place) (n : ℕ) (hx : b .x + n 
       (omega (arith, iy .low, iy .high), omega (arith, iz .low, iz .high))
 
   pub part-marked : (l : List ℕ) → rowNo z b < length l → Marked z due l (marked-in l (rowNo z b) part)
-  part-marked l h = record { long = length-set l (rowNo z b) _; at = λ y w x hy hw. go y w x hy hw (ℕ-discrete (y + z .ny * w) (rowNo z b)) }
+  part-marked l h = record {
+    long = length-set l (rowNo z b) _;
+    at = λ y w x hy hw. go y w x hy hw (ℕ-discrete (y + z .ny * w) (rowNo z b));
+  }
     where
       go : (y w x : ℕ) → y < z .ny → w < z .nz → Dec (y + z .ny * w ≡ rowNo z b)
           → bit (getD (marked-in l (rowNo z b) part) (y + z .ny * w) 0) x ≡ (due (place x y w) || bit (getD l (y + z .ny * w) 0) x)

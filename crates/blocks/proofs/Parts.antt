@@ -26,7 +26,8 @@ use Rattle.paper.proofs.Judged.{both}
 use Rattle.paper.proofs.Visits.{in-lattice, lattice-in}
 use Rattle.bits.specs.Words.{bit}
 use Rattle.rows.specs.Rows.{rowNo, quadAt, pairs, crossedIn, crossedBy}
-use Rattle.blocks.specs.Blocks.{within, inBlock, halfAt, part, inParts, Block, sideBy, OnSide, OneSide, Outside, Quiet, crossedWhere, Marked}
+use Rattle.blocks.specs.Blocks.{within, inBlock, halfAt, part, inParts, Block, sideBy}
+use Rattle.blocks.specs.Blocks.{OnSide, OneSide, Outside, Quiet, crossedWhere, Marked}
 use Rattle.blocks.proofs.Marks.{marked-none, marked-ext, marked-both}
 
 -- ── places in a block ──

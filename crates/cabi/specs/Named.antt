@@ -8,8 +8,8 @@ use Rattle.paper.specs.declared.Start.{Start}
 use Rattle.paper.specs.declared.Start.the-variants.{Unnamed, Lowest, Cube}
 use Rattle.paper.specs.declared.Rule.{Rule}
 use Rattle.paper.specs.declared.Rule.the-variants.{Down, Nearest}
-use Rattle.floats.specs.declared.Level.{Level}
-use Rattle.floats.specs.declared.Level.the-variants.{Fixed, Halfway}
+use Rattle.greys.specs.declared.Level.{Level}
+use Rattle.greys.specs.declared.Level.the-variants.{Fixed, Halfway}
 
 -- 0: the caller names no start; 1: the lowest crossed cube; any other number: the cube at the place
 unfoldable pub startIf : ℕ → Place → Start

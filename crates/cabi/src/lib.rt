@@ -1,6 +1,6 @@
 // The library for programs in other languages: the entry points under plain names, a start as a number and a place, a rule as a number,
 // a level as a flag and two greys.
-use floats::Level;
+use greys::Level;
 use paper::Built;
 use paper::Got;
 use paper::Place;
@@ -9,8 +9,8 @@ use paper::Sizes;
 use paper::Start;
 use paper::Verdict;
 use paper::Wrote;
-use pieces::Found;
 use stl::Loaded;
+use tray::Found;
 ghost use mathlib.Core.Path.{_≡_};
 ghost use Rattle.paper.specs.Lattice.{lattice};
 ghost use Rattle.paper.specs.Room.{work};
@@ -18,8 +18,8 @@ ghost use Rattle.paper.specs.Build.{lent, Builds};
 ghost use Rattle.paper.specs.File.{Writes, Reads};
 ghost use Rattle.paper.specs.Check.{Checks};
 ghost use Rattle.stl.specs.Stl.{StlWrites, StlReads};
-ghost use Rattle.floats.specs.Convert.{Converts};
-ghost use Rattle.pieces.specs.Pieces.{lent as listLent, Finds};
+ghost use Rattle.greys.specs.Convert.{Converts};
+ghost use Rattle.tray.specs.Pieces.{lent as listLent, Finds};
 ghost use Rattle.cabi.specs.Named.{startIf, ruleIf, levelIf};
 
 // The start that a number and a place name: 0 none, 1 the lowest crossed cube, any other number the cube at the place.
@@ -48,12 +48,14 @@ pub extern "C" fn malxuqeed_build(
     slots: &mut [u32],
 ) -> Built
     ensures { λ r.
-        let before = lent (now (vertices .entry)) (now (triangles .entry)) (work (now (words .entry)) (now (waiting .entry)) (now (slots .entry))) in
-        let after = lent (now (vertices .exit)) (now (triangles .exit)) (work (now (words .exit)) (now (waiting .exit)) (now (slots .exit))) in
+        let before = lent (now (vertices .entry)) (now (triangles .entry))
+        (work (now (words .entry)) (now (waiting .entry)) (now (slots .entry))) in
+        let after = lent (now (vertices .exit)) (now (triangles .exit))
+        (work (now (words .exit)) (now (waiting .exit)) (now (slots .exit))) in
         ⌜ Builds (lattice sizes (now (samples .entry))) (startIf from start) before r after ⌝ }
 {
     let at = start_if(from, start);
-    sheet::build(
+    builder::build(
         samples,
         sizes,
         at,
@@ -76,14 +78,15 @@ pub extern "C" fn malxuqeed_write(
 ) -> Wrote
     ensures { λ r. ⌜ Writes sizes nv nt (now (vertices .entry)) (now (triangles .entry)) (now (bytes .entry)) r (now (bytes .exit)) ⌝ }
 {
-    sheetfile::write(sizes, nv, nt, vertices, triangles, bytes)
+    file_writer::write(sizes, nv, nt, vertices, triangles, bytes)
 }
 
 #[no_mangle]
 pub extern "C" fn malxuqeed_read(bytes: &[u8], vertices: &mut [i32], triangles: &mut [u32]) -> Got
-    ensures { λ r. ⌜ Reads (now (bytes .entry)) (now (vertices .entry)) (now (triangles .entry)) r (now (vertices .exit)) (now (triangles .exit)) ⌝ }
+    ensures { λ r.
+        ⌜ Reads (now (bytes .entry)) (now (vertices .entry)) (now (triangles .entry)) r (now (vertices .exit)) (now (triangles .exit)) ⌝ }
 {
-    sheetfile::read(bytes, vertices, triangles)
+    file_reader::read(bytes, vertices, triangles)
 }
 
 // The rule that a number names: 0 down, any other number nearest.
@@ -128,14 +131,14 @@ pub extern "C" fn malxuqeed_stl_write(
 ) -> Wrote
     ensures { λ r. ⌜ StlWrites nv nt (now (vertices .entry)) (now (triangles .entry)) (now (bytes .entry)) r (now (bytes .exit)) ⌝ }
 {
-    stl::write(nv, nt, vertices, triangles, bytes)
+    stl_writer::write(nv, nt, vertices, triangles, bytes)
 }
 
 #[no_mangle]
 pub extern "C" fn malxuqeed_stl_read(bytes: &[u8], corners: &mut [i32]) -> Loaded
     ensures { λ r. ⌜ StlReads (now (bytes .entry)) (now (corners .entry)) r (now (corners .exit)) ⌝ }
 {
-    stl::read(bytes, corners)
+    stl_reader::read(bytes, corners)
 }
 
 // The level that a flag and two greys give.

@@ -1,4 +1,2 @@
--- Laws of a check.
-pub mod Answers
-pub mod Spots
-pub mod Verdicts
+-- The answer of a check, and what it leaves, from the answers of its parts.
+pub mod Whole

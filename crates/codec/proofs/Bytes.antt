@@ -36,7 +36,8 @@ field-part k w bs at j h l =
 -- the bytes of a number give it back
 pub unle-le : (k n : ℕ) → n < 256 ^ k → unle (le k n) ≡ n
 unle-le zero n h = omega arith
-unle-le (suc k) n h = omega (arith, unle-le k (n / 256) (div-lt-iff-lt-mul {k = 256} {x = n} {y = 256 ^ k} (omega arith) .1 (rw (pow-suc 256 k) at h)))
+unle-le (suc k) n h =
+    omega (arith, unle-le k (n / 256) (div-lt-iff-lt-mul {k = 256} {x = n} {y = 256 ^ k} (omega arith) .1 (rw (pow-suc 256 k) at h)))
 
 -- and bytes those of the number that they give
 pub le-unle : (bs : List ℕ) → Bytes bs → le (length bs) (unle bs) ≡ bs

@@ -13,7 +13,8 @@ use Rattle.lists.proofs.Runs.{each-append, length-along, at-along, along-snoc}
 use Rattle.lists.proofs.Stores.{sets-join}
 
 -- one thing more is read
-pub get-more : {A : Type 0} (v : List A) (h : ℕ → A) (j : ℕ) → set (sets v 0 (map h (range 0 j))) j (h j) ≡ sets v 0 (map h (range 0 (j + 1)))
+pub get-more : {A : Type 0} (v : List A) (h : ℕ → A) (j : ℕ)
+    → set (sets v 0 (map h (range 0 j))) j (h j) ≡ sets v 0 (map h (range 0 (j + 1)))
 get-more v h j =
     let e : 0 + length (map h (range 0 j)) ≡ j = omega (arith, length-along h 0 j) in
     let m : map h (range 0 (j + 1)) ≡ map h (range 0 j) ++ (h j ∷ []) = ap (λ (k : ℕ). map h (range 0 k)) (add-one j) ∙ along-snoc h j in
@@ -59,7 +60,8 @@ module _ {A : Type 0} (f : A → List ℕ) (k : ℕ) (wide : (a : A) → length 
 
 module _ {A : Type 0} (f : A → List ℕ) (k : ℕ) (h : ℕ → A) (bs : List ℕ) (at : ℕ) where
   -- things whose bytes are the parts of a list, one after another
-  pub each-parts : (n : ℕ) → ((i : ℕ) → i < n → f (h i) ≡ take k (drop (at + k * i) bs)) → each f (map h (range 0 n)) ≡ take (k * n) (drop at bs)
+  pub each-parts : (n : ℕ) → ((i : ℕ) → i < n → f (h i) ≡ take k (drop (at + k * i) bs))
+      → each f (map h (range 0 n)) ≡ take (k * n) (drop at bs)
   each-parts zero same =
       let e : k * 0 ≡ 0 = omega arith in
       rw e

@@ -68,7 +68,8 @@ draws-one rule L first at e d v q = record {
 }
 
 -- the same edges by another name
-pub draws-same : (rule : Rule) (L : Lattice) (first at : ℕ) (d : Drawn) (n : ℕ) (e : Drawn) (a b : List ℕ) → a ≡ b → Draws rule L a first at d n e
+pub draws-same : (rule : Rule) (L : Lattice) (first at : ℕ) (d : Drawn) (n : ℕ) (e : Drawn) (a b : List ℕ) → a ≡ b
+    → Draws rule L a first at d n e
     → Draws rule L b first at d n e
 draws-same rule L first at d n e a b q A = subst (λ (es : List ℕ). Draws rule L es first at d n e) q A
 
@@ -109,7 +110,8 @@ module _ (rule : Rule) (L : Lattice) (f : ℕ → List ℕ) (m first at : ℕ) w
         }
 
     -- one more
-    pub drawing-more : (k : ℕ) (g : Drawn) → first ≤ at → n < m → Draws rule L (f n) first next e k g → Drawing rule L f m first at (n + 1) k d g
+    pub drawing-more : (k : ℕ) (g : Drawn) → first ≤ at → n < m → Draws rule L (f n) first next e k g
+        → Drawing rule L f m first at (n + 1) k d g
     drawing-more k g s h A = record {
       upto = omega arith;
       draws =
@@ -164,7 +166,8 @@ module _ (f : ℕ → List ℕ) (m at : ℕ) (l : List ℕ) where
         subst (λ (i : ℕ). Numbers (each f (range 0 i)) at l next k) q (N .numbers)
 
 -- what is drawn is numbered
-pub draws-numbers : (rule : Rule) (L : Lattice) (es : List ℕ) (first at : ℕ) (d : Drawn) (n : ℕ) (e : Drawn) → Draws rule L es first at d n e
+pub draws-numbers : (rule : Rule) (L : Lattice) (es : List ℕ) (first at : ℕ) (d : Drawn) (n : ℕ) (e : Drawn)
+    → Draws rule L es first at d n e
     → Numbers es at (d .slots) n (e .slots)
 draws-numbers rule L es first at d n e A = record { slots = A .slots; next-is = A .next-is }
 
@@ -188,11 +191,13 @@ unfolding edgeAt
 kind-off ks base kind e = sym (ap (λ (b : Bool). cond b ((base + kind) ∷ []) []) e)
 
 -- the vertex of a kind
-pub draws-kind : (rule : Rule) (L : Lattice) (first at ks base kind : ℕ) (d : Drawn) (v vs : List ℤ) → vs ≡ sets (d .vertices) (4 * (at - first)) v
+pub draws-kind : (rule : Rule) (L : Lattice) (first at ks base kind : ℕ) (d : Drawn) (v vs : List ℤ)
+    → vs ≡ sets (d .vertices) (4 * (at - first)) v
     → v ≡ vertexRecord rule L (base + kind) → bit ks kind ≡ true
     → Draws rule L (edgeAt ks base kind) first at d (at + 1) (drawn vs (set (d .slots) (base + kind) at))
 draws-kind rule L first at ks base kind d v vs e q t =
-    subst (λ (w : List ℤ). Draws rule L (edgeAt ks base kind) first at d (at + 1) (drawn w (set (d .slots) (base + kind) at))) (sym e)
-    (subst
-    (λ (es : List ℕ). Draws rule L es first at d (at + 1) (drawn (sets (d .vertices) (4 * (at - first)) v) (set (d .slots) (base + kind) at)))
-    (kind-on ks base kind t) (draws-one rule L first at (base + kind) d v q))
+    let after : List ℤ → Drawn = λ w. drawn w (set (d .slots) (base + kind) at) in
+    let put = sets (d .vertices) (4 * (at - first)) v in
+    subst (λ (w : List ℤ). Draws rule L (edgeAt ks base kind) first at d (at + 1) (after w)) (sym e)
+    (subst (λ (es : List ℕ). Draws rule L es first at d (at + 1) (after put)) (kind-on ks base kind t)
+    (draws-one rule L first at (base + kind) d v q))

@@ -15,7 +15,8 @@ use Rattle.lists.proofs.Runs.{range-join, keep-append, each-more}
 use Rattle.paper.specs.declared.Place.{Place}
 use Rattle.paper.specs.declared.Rule.{Rule}
 use Rattle.paper.specs.Lattice.{Lattice, samples, sampleNo, airAt, cubes, visited}
-use Rattle.paper.specs.Sheet.{tetrahedra, anchorOf, kindIn, firstEnd, secondEnd, split, cubeEdges, vertexEdges, vertexRecord, sheetOf, vertexWords}
+use Rattle.paper.specs.Sheet.{tetrahedra, anchorOf, kindIn, firstEnd, secondEnd, split}
+use Rattle.paper.specs.Sheet.{cubeEdges, vertexEdges, vertexRecord, sheetOf, vertexWords}
 use Rattle.paper.specs.Room.{neededSlots}
 use Rattle.paper.specs.Within.{Sized, SampleIn}
 use Rattle.paper.proofs.Edges.{Joined, cube-edges-join}
@@ -159,7 +160,8 @@ module _ (L : Lattice) (s : Sized (L .size)) (start : ℕ) (rows vis : List ℕ)
   rising rule = subst (Rising 0) (sym (parts rule L start .edges)) (edges-rising tetrahedra L (visited L start))
 
   -- the slots of their edges, numbered from 0, have their ranks
-  pub slots-rank : (rule : Rule) (slots : List ℕ) → neededSlots (L .size) ≤ length slots → (e : ℕ) → T (isIn (sheetOf rule L start .edges) e)
+  pub slots-rank : (rule : Rule) (slots : List ℕ) → neededSlots (L .size) ≤ length slots → (e : ℕ)
+      → T (isIn (sheetOf rule L start .edges) e)
       → getD (numbered 0 (edgesBy (L .size) rows vis) slots) e 0 ≡ rank (sheetOf rule L start .edges) e
   slots-rank rule slots h e t =
       let es = sheetOf rule L start .edges in

@@ -28,7 +28,8 @@ module _ {B : Type 0} (alike : B → B → Bool) (own : (t : B) → T (alike t t
     once t = few-along (λ i. alike t (f i)) n (λ i j h l x y. m .apart i j h l (along (f i) t (f j) (back t (f i) x) y))
 
     pub often : Often
-    often t = count-map (alike t) f (range 0 n) ∙ go (count (λ i. alike t (f i)) (range 0 n)) (count (alike t) us) refl refl (once t) (thin t)
+    often t =
+        count-map (alike t) f (range 0 n) ∙ go (count (λ i. alike t (f i)) (range 0 n)) (count (alike t) us) refl refl (once t) (thin t)
       where
         in-list : 0 < count (λ i. alike t (f i)) (range 0 n) → 0 < count (alike t) us
         in-list h =
@@ -63,6 +64,7 @@ module _ {B : Type 0} (alike : B → B → Bool) (own : (t : B) → T (alike t t
           let w = pick (λ i. alike u (f i)) (range 0 n) (λ q. omega (arith, hits u)) in
           member-any (λ i. alike u (f i)) (w .1) (w .2);
       apart = λ i j h l t.
-          let e = count-one (λ k. alike (f i) (f k)) (omega (arith, hits (f i), thin (f i))) (in-run n i h) (in-run n j (omega arith)) (own (f i)) t in
+          let e = count-one (λ k. alike (f i) (f k)) (omega (arith, hits (f i), thin (f i)))
+          (in-run n i h) (in-run n j (omega arith)) (own (f i)) t in
           omega arith;
     }

@@ -25,14 +25,16 @@ use Rattle.pairing.specs.Pairing.{arrow, around, isArrow, times}
 use Rattle.pairing.proofs.Sheets.{few-by-edge}
 use Rattle.pairing.proofs.Turned.{is-turned, turned-is, back, along, hit, hit-turned}
 
-module _ (rule : Rule) (L : Lattice) (start : ℕ) (vs : List ℤ) (nv : ℕ) (good : (i : ℕ) → i < nv → Recorded (vertexRecord rule L) (sheetOf rule L start) vs i) where
+module _ (rule : Rule) (L : Lattice) (start : ℕ) (vs : List ℤ) (nv : ℕ)
+    (good : (i : ℕ) → i < nv → Recorded (vertexRecord rule L) (sheetOf rule L start) vs i) where
   abbrev edges : List ℕ
   edges = sheetOf rule L start .edges
 
   one-edge : (i : ℕ) → In i (range 0 nv) → count (λ e. sameNumber (edgeOf vs i) (pos e)) edges ≡ 1
   one-edge i m =
       let r = good i (below nv i m) in
-      ap (λ (x : ℤ). count (λ e. sameNumber x (pos e)) edges) (record-edge rule L vs i (r .edge) (r .is)) ∙ count-unique (edges-unique rule L start) (r .vertex)
+      ap (λ (x : ℤ). count (λ e. sameNumber x (pos e)) edges) (record-edge rule L vs i (r .edge) (r .is))
+      ∙ count-unique (edges-unique rule L start) (r .vertex)
 
   one-record : (e : ℕ) → In e edges → count (λ i. sameNumber (edgeOf vs i) (pos e)) (range 0 nv) ≤ 1
   one-record e m =

@@ -56,7 +56,8 @@ module _ (rule : Rule) (L : Lattice) (start : ℕ) (vs : List ℤ) (nv : ℕ) wh
 
   pub thin : (r : List ℤ) → count (sameNumbers r) records ≤ 1
   thin r =
-      subst (λ (n : ℕ). n ≤ 1) (sym (ap (count (sameNumbers r)) (parts rule L start .records) ∙ count-map (sameNumbers r) (vertexRecord rule L) edges))
+      subst (λ (n : ℕ). n ≤ 1)
+      (sym (ap (count (sameNumbers r)) (parts rule L start .records) ∙ count-map (sameNumbers r) (vertexRecord rule L) edges))
       (few (λ e. sameNumbers r (vertexRecord rule L e)) (edges-unique rule L start)
       (λ a b i j x y. one-edge rule L a b (sym (same-numbers r (vertexRecord rule L a) x) ∙ same-numbers r (vertexRecord rule L b) y)))
 
@@ -74,7 +75,8 @@ module _ (rule : Rule) (L : Lattice) (start : ℕ) (vs : List ℤ) (nv : ℕ) wh
   passes-match p = record {
     sound = λ i h.
         let r = p .good i h in
-        member-any (sameNumbers (recordOf vs i)) (vertex-in (r .edge) (r .vertex)) (numbers-same (recordOf vs i) (vertexRecord rule L (r .edge)) (r .is));
+        member-any (sameNumbers (recordOf vs i)) (vertex-in (r .edge) (r .vertex))
+        (numbers-same (recordOf vs i) (vertexRecord rule L (r .edge)) (r .is));
     full = λ r m.
         let w = of-vertex r m in
         let v = p .full (w .0) (w .1) in
@@ -106,8 +108,12 @@ module _ (rule : Rule) (L : Lattice) (start : ℕ) (vs : List ℤ) (nv : ℕ) wh
                 m .apart i j h l (numbers-same (recordOf vs i) (recordOf vs j) (v .2 ∙ sym r));
           };
       full = λ e i.
-          let v = any-member (λ k. sameNumbers (vertexRecord rule L e) (recordOf vs k)) (range 0 nv) (m .full (vertexRecord rule L e) (vertex-in e i)) in
-          (v .0, below nv (v .0) (v .1), record-edge rule L vs (v .0) e (sym (same-numbers (vertexRecord rule L e) (recordOf vs (v .0)) (v .2))));
+          let v = any-member (λ k. sameNumbers (vertexRecord rule L e) (recordOf vs k))
+          (range 0 nv) (m .full (vertexRecord rule L e) (vertex-in e i)) in (
+            v .0,
+            below nv (v .0) (v .1),
+            record-edge rule L vs (v .0) e (sym (same-numbers (vertexRecord rule L e) (recordOf vs (v .0)) (v .2))),
+          );
     }
 
 -- ── triangles ──
@@ -115,7 +121,8 @@ module _ (rule : Rule) (L : Lattice) (start : ℕ) (vs : List ℤ) (nv : ℕ) wh
 pub turned-back : (t u : Tri) → T (turned t u) → T (turned u t)
 turned-back t u h = turned-is (back (is-turned t u h))
 
-module _ (rule : Rule) (L : Lattice) (s : Sized (L .size)) (start : ℕ) (h : start < cubes (L .size)) (vs : List ℤ) (ts : List ℕ) (nt : ℕ) where
+module _ (rule : Rule) (L : Lattice) (s : Sized (L .size)) (start : ℕ)
+    (h : start < cubes (L .size)) (vs : List ℤ) (ts : List ℕ) (nt : ℕ) where
   abbrev us : List Tri
   us = sheetOf rule L start .byEdge
 
@@ -130,7 +137,8 @@ module _ (rule : Rule) (L : Lattice) (s : Sized (L .size)) (start : ℕ) (h : st
 
   abbrev pub MatchTri : Type 0
   MatchTri =
-      Matching turned (λ t. turned-is (same refl)) turned-back (λ t u v h g. turned-is (along (is-turned t u h) (is-turned u v g))) tri-at nt us thin-us
+      Matching turned (λ t. turned-is (same refl)) turned-back
+      (λ t u v h g. turned-is (along (is-turned t u h) (is-turned u v g))) tri-at nt us thin-us
 
   -- tests 18 and 19 of the triangles
   pub record PassesTri : Type 0 where

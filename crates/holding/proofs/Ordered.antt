@@ -30,7 +30,8 @@ passes rule L s start h bs v t vs ts =
     let S = sheetOf rule L start in
     let z = fileSizes bs in
     let a = match-passes rule L start (fileVertices bs) (fileV bs)
-    (matching _ _ _ _ _ _ _ _ (λ r. ap (count (sameNumbers r)) ((λ j. map (recordOf (vs j)) (range 0 (v j))) ∙ records-are rule L s start))) in
+    (matching _ _ _ _ _ _ _ _
+    (λ r. ap (count (sameNumbers r)) ((λ j. map (recordOf (vs j)) (range 0 (v j))) ∙ records-are rule L s start))) in
     let b = tri-passes rule L s start h (fileVertices bs) (fileTriangles bs) (fileT bs)
     (matching _ _ _ _ _ _ _ _
     (λ u. ap (count (turned u)) ((λ j. map (triangleOf (vs j) (ts j)) (range 0 (t j))) ∙ triangles-are rule L s start))) in

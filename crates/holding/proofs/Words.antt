@@ -24,18 +24,21 @@ use Rattle.tetra.proofs.Laws.{three}
 -- ── lists ──
 
 -- along a run as long as a list
-run-is : {A B : Type 0} (g : ℕ → B) (f : A → B) (l : List A) (d : A) → ((i : ℕ) → i < length l → g i ≡ f (getD l i d)) → map g (range 0 (length l)) ≡ map f l
+run-is : {A B : Type 0} (g : ℕ → B) (f : A → B) (l : List A) (d : A)
+    → ((i : ℕ) → i < length l → g i ≡ f (getD l i d)) → map g (range 0 (length l)) ≡ map f l
 run-is g f l d h =
     map-same-in g (λ i. f (getD l i d)) (range 0 (length l)) (members (range 0 (length l)) (λ i m. h i (below (length l) i m)))
     ∙ (sym (map-map f (λ i. getD l i d) (range 0 (length l))) ∙ ap (map f) (along-list l d))
 
 -- the four numbers of record i of records one behind the other
-record-at : (rule : Rule) (L : Lattice) (es : List ℕ) (i : ℕ) → i < length es → recordOf (each (vertexRecord rule L) es) i ≡ vertexRecord rule L (getD es i 0)
+record-at : (rule : Rule) (L : Lattice) (es : List ℕ) (i : ℕ) → i < length es
+    → recordOf (each (vertexRecord rule L) es) i ≡ vertexRecord rule L (getD es i 0)
 unfolding recordOf
 record-at rule L [] i h = absurd (omega arith)
 record-at rule L (e ∷ es) zero h =
     let r = vertexRecord rule L e in
-    ap (λ (n : ℕ). take n (r ++ each (vertexRecord rule L) es)) (sym (record-length rule L e)) ∙ take-append-seam r (each (vertexRecord rule L) es)
+    ap (λ (n : ℕ). take n (r ++ each (vertexRecord rule L) es)) (sym (record-length rule L e))
+    ∙ take-append-seam r (each (vertexRecord rule L) es)
 record-at rule L (e ∷ es) (suc i) h =
     let r = vertexRecord rule L e in
     let q : 4 * suc i ≡ length r + 4 * i = omega (arith, record-length rule L e) in

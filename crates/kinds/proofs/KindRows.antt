@@ -22,7 +22,8 @@ use Rattle.rows.specs.declared.Quad.{Quad}
 use Rattle.bits.specs.Words.{bit, lowered}
 use Rattle.bits.proofs.Bits.{bit-of-0, bit-word}
 use Rattle.rows.specs.Rows.{HasRows, four, sideRow, cornerBit, isOneOf, HasCubes}
-use Rattle.kinds.specs.Kinds.{anchors, cubeBit, kindBit, isCube, cornerOf, SidesAt, VisitsAt, rowAt, rowBefore, sidesAround, cubesAround}
+use Rattle.kinds.specs.Kinds.{anchors, cubeBit, kindBit, isCube, cornerOf, SidesAt}
+use Rattle.kinds.specs.Kinds.{VisitsAt, rowAt, rowBefore, sidesAround, cubesAround}
 use Rattle.kinds.proofs.KindEdges.{Standing, standing, edge-has}
 
 -- ── the visited cubes ──

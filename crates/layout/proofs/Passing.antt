@@ -53,13 +53,15 @@ module _ (nv nt : ℕ) (ts : List ℕ) (none : firstBad nv nt ts ≡ nt) where
   index-below i h = corner (i / 3) (i % 3) i (omega arith) (omega arith) (omega arith)
 
 -- the indices settle it
-pub first-same : (nv nt : ℕ) (ts us : List ℕ) → ((i : ℕ) → i < 3 * nt → getD us i 0 ≡ getD ts i 0) → firstBad nv nt ts ≡ nt → firstBad nv nt us ≡ nt
+pub first-same : (nv nt : ℕ) (ts us : List ℕ) → ((i : ℕ) → i < 3 * nt → getD us i 0 ≡ getD ts i 0)
+    → firstBad nv nt ts ≡ nt → firstBad nv nt us ≡ nt
 first-same nv nt ts us same none =
     sym
     (bad-missing nv nt us
     (λ k h.
     bad-is nv us k
-    ∙ (rw (same (3 * k) (omega arith), same (3 * k + 1) (omega arith), same (3 * k + 2) (omega arith)) (sym (bad-is nv ts k)) ∙ none-bad nv nt ts none k h)))
+    ∙ (rw (same (3 * k) (omega arith), same (3 * k + 1) (omega arith), same (3 * k + 2) (omega arith)) (sym (bad-is nv ts k))
+    ∙ none-bad nv nt ts none k h)))
 
 -- ── a file that passes its tests ──
 

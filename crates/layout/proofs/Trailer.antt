@@ -10,7 +10,8 @@ use lib.IntN.{pos}
 use lib.ListN.{length, getD}
 use Rattle.lists.specs.Lists.{range}
 use Rattle.lists.specs.Bytes.{field}
-use Rattle.paper.specs.File.{signed32, fileLength, badTriangle, firstBad, limits, trailer, fileV, fileT, fileVertices, fileTriangles, laidOut}
+use Rattle.paper.specs.File.{signed32, fileLength, badTriangle, firstBad, limits, trailer}
+use Rattle.paper.specs.File.{fileV, fileT, fileVertices, fileTriangles, laidOut}
 use Rattle.lists.proofs.Firsts.{first-found, first-missing}
 use Rattle.lists.proofs.Runs.{length-along, at-along}
 use Rattle.codec.proofs.Runs.{wordAt}
@@ -42,12 +43,14 @@ pub triangle-at : (bs : List ℕ) (i : ℕ) → i < 3 * fileT bs → getD (fileT
 unfolding fileTriangles
 triangle-at bs i h = at-along (λ i. field 4 bs (16 * fileV bs + 4 * i)) 0 (3 * fileT bs) i h
 
-pub bad-is : (nv : ℕ) (ts : List ℕ) (i : ℕ) → badTriangle nv ts i ≡ anyFrom nv (getD ts (3 * i) 0) (getD ts (3 * i + 1) 0) (getD ts (3 * i + 2) 0)
+pub bad-is : (nv : ℕ) (ts : List ℕ) (i : ℕ)
+    → badTriangle nv ts i ≡ anyFrom nv (getD ts (3 * i) 0) (getD ts (3 * i + 1) 0) (getD ts (3 * i + 2) 0)
 unfolding badTriangle
 bad-is nv ts i = ap (λ (k : ℕ). anyFrom nv (getD ts k 0) (getD ts (3 * i + 1) 0) (getD ts (3 * i + 2) 0)) (add-zero (3 * i))
 
 -- the first bad triangle, as a loop over them finds it
-pub bad-found : (nv nt : ℕ) (ts : List ℕ) (i : ℕ) → i < nt → ((k : ℕ) → k < i → badTriangle nv ts k ≡ false) → badTriangle nv ts i ≡ true → i ≡ firstBad nv nt ts
+pub bad-found : (nv nt : ℕ) (ts : List ℕ) (i : ℕ) → i < nt
+    → ((k : ℕ) → k < i → badTriangle nv ts k ≡ false) → badTriangle nv ts i ≡ true → i ≡ firstBad nv nt ts
 unfolding firstBad
 bad-found nv nt ts i = first-found (badTriangle nv ts) nt i
 

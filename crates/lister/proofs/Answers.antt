@@ -18,7 +18,8 @@ use Rattle.paper.specs.Build.{uncounted, built, lentAfter}
 use Rattle.paper.proofs.Passing.{built-same}
 use Rattle.lists.proofs.Runs.{length-along}
 use Rattle.lists.proofs.Stores.{sets-front}
-use Rattle.lister.specs.Listing.{signed16, listedSizes, listedSamples, listedLattice, listingNumber, vertexNumbers, triangleNumbers, listingRoom, ownRoom, listed, listedAfter, Lists}
+use Rattle.lister.specs.Listing.{signed16, listedSizes, listedSamples, listedLattice, listingNumber, vertexNumbers}
+use Rattle.lister.specs.Listing.{triangleNumbers, listingRoom, ownRoom, listed, listedAfter, Lists}
 
 -- the samples, read to the front of a list and taken from it
 pub samples-are : (bs : List ℕ) (n : ℕ) (l : List ℤ) → n ≡ samples (listedSizes bs) → n ≤ length l
@@ -39,7 +40,8 @@ own-built L vs ts ev et =
     (ap (λ (n : ℕ). n / recordLength) (ev ∙ sym (length-replicate {A = ℤ} vertexNumbers (pos 0))))
     (ap (λ (n : ℕ). n / 3) (et ∙ sym (length-replicate {A = ℕ} triangleNumbers 0))) refl .0
 
-pub list-refused : (bs : List ℕ) (vs : List ℤ) (ts : List ℕ) (n : ℕ) → n ≡ listingNumber bs → (n ≡ 0 → ⊥) → Lists bs vs ts (uncounted n) vs ts
+pub list-refused : (bs : List ℕ) (vs : List ℤ) (ts : List ℕ) (n : ℕ)
+    → n ≡ listingNumber bs → (n ≡ 0 → ⊥) → Lists bs vs ts (uncounted n) vs ts
 unfolding listed listedAfter listingRoom
 list-refused bs vs ts n e h =
     let q = ne-eqb (listingNumber bs) 0 (λ z. h (e ∙ z)) in

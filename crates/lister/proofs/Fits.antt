@@ -18,14 +18,16 @@ use Rattle.paper.specs.Room.{vertexRoom, triangleRoom, outputAfter}
 use Rattle.paper.specs.Build.{Lent, startOf, buildRule, sheetFrom, buildNumber, uncounted, built, lentAfter}
 use Rattle.paper.proofs.Listing.{vertex-words-length, triangle-words-length}
 use Rattle.paper.proofs.Passing.{built-number, built-zero, built-fits}
-use Rattle.lister.specs.Listing.{listedLattice, listingNumber, vertexNumbers, triangleNumbers, listingRoom, ownRoom, listed, listedAfter, Lists}
+use Rattle.lister.specs.Listing.{listedLattice, listingNumber, vertexNumbers, triangleNumbers}
+use Rattle.lister.specs.Listing.{listingRoom, ownRoom, listed, listedAfter, Lists}
 
 -- the counted vertices and triangles stand in slices of these lengths
 pub record Fits (r : Built) (nv nt : ℕ) : Type 0 where
   pub vertices : 4 * r .vertices ≤ nv
   pub triangles : 3 * r .triangles ≤ nt
 
-build-fits : (L : Lattice) (s : Start) (l : Lent) → built L s l .number ≡ 0 → Fits (built L s l) (length (l .vertices)) (length (l .triangles))
+build-fits : (L : Lattice) (s : Start) (l : Lent) → built L s l .number ≡ 0
+    → Fits (built L s l) (length (l .vertices)) (length (l .triangles))
 build-fits L s l e =
     let f = built-fits L s l e in
     rw (built-zero L s l e) (record { vertices = omega (arith, f .0); triangles = omega (arith, f .1) })
@@ -66,7 +68,8 @@ module _ (L : Lattice) (s : Start) (l : Lent) where
   left-vertices : length (lentAfter L s l .vertices) ≡ length (l .vertices)
   unfolding lentAfter
   left-vertices =
-      output-length (buildNumber L s l) (vertexWords S) (l .vertices) (λ e. omega (arith, fits-in e .0, vertex-words-length buildRule L (startOf L s)))
+      output-length (buildNumber L s l) (vertexWords S) (l .vertices)
+      (λ e. omega (arith, fits-in e .0, vertex-words-length buildRule L (startOf L s)))
 
   left-triangles : length (lentAfter L s l .triangles) ≡ length (l .triangles)
   unfolding lentAfter
@@ -94,4 +97,5 @@ module _ (bs : List ℕ) (vs : List ℤ) (ts : List ℕ) where
 -- any two outcomes that the contract of a listing allows agree
 pub lists-agree : (bs : List ℕ) (vs : List ℤ) (ts : List ℕ) (r₁ r₂ : Built) (vs₁ vs₂ : List ℤ) (ts₁ ts₂ : List ℕ)
     → Lists bs vs ts r₁ vs₁ ts₁ → Lists bs vs ts r₂ vs₂ ts₂ → (r₁ ≡ r₂) × (vs₁ ≡ vs₂) × (ts₁ ≡ ts₂)
-lists-agree bs vs ts r₁ r₂ vs₁ vs₂ ts₁ ts₂ a b = (a .answer ∙ sym (b .answer), a .vertices ∙ sym (b .vertices), a .triangles ∙ sym (b .triangles))
+lists-agree bs vs ts r₁ r₂ vs₁ vs₂ ts₁ ts₂ a b =
+    (a .answer ∙ sym (b .answer), a .vertices ∙ sym (b .vertices), a .triangles ∙ sym (b .triangles))

@@ -97,7 +97,7 @@ fn mesh(samples: &[i16], sizes: Sizes, vertices: &mut [i32], triangles: &mut [u3
     let mut words = [0u16; 343];
     let mut waiting = [0u32; 343];
     let mut slots = [0u32; 3584];
-    sheet::build(
+    builder::build(
         samples,
         sizes,
         Start::Lowest,
@@ -111,7 +111,8 @@ fn mesh(samples: &[i16], sizes: Sizes, vertices: &mut [i32], triangles: &mut [u3
 
 // The sheet that bytes list, or the number of the first test that fails. "Its own room is .. 1,000 vertices and 2,000 triangles."
 pub fn list(input: &[u8], vertices: &mut [i32; 4000], triangles: &mut [u32; 6000]) -> Built
-    ensures { λ r. ⌜ Lists (now (input .entry)) (now (vertices .entry)) (now (triangles .entry)) r (now (vertices .exit)) (now (triangles .exit)) ⌝ }
+    ensures { λ r.
+        ⌜ Lists (now (input .entry)) (now (vertices .entry)) (now (triangles .entry)) r (now (vertices .exit)) (now (triangles .exit)) ⌝ }
 {
     let number = tested(input);
     if number != 0 {

@@ -10,7 +10,8 @@ use lib.ListN.{length}
 use Rattle.lists.specs.Lists.{range, consIf, keep, any, each, isIn}
 use Rattle.lists.specs.Reach.{Reach, here, step, grow, rounds, reached}
 use Rattle.lists.proofs.Rising.{keep-le}
-use Rattle.lists.proofs.Member.{T→eq, or-cases, or-left, or-right, and-both, and-left, and-right, any-append, any-each, any-in, in-any, in-keep, in-range, range-in}
+use Rattle.lists.proofs.Member.{T→eq, or-cases, or-left, or-right, and-both, and-left, and-right}
+use Rattle.lists.proofs.Member.{any-append, any-each, any-in, in-any, in-keep, in-range, range-in}
 
 -- of two tests, the second of which passes where the first does: they keep the same, or the second keeps more
 data Kept (a b : List ℕ) : Type 0 where
@@ -57,7 +58,8 @@ module _ (next : ℕ → List ℕ) (n : ℕ) where
   unfolding grow
   in-grow l k =
       in-keep (isIn (l ++ each next l)) (range 0 n) k
-      ∙ ap (λ (b : Bool). isIn (range 0 n) k && b) (any-append (eqb k) l (each next l) ∙ ap (λ (b : Bool). isIn l k || b) (any-each (eqb k) next l))
+      ∙ ap (λ (b : Bool). isIn (range 0 n) k && b)
+      (any-append (eqb k) l (each next l) ∙ ap (λ (b : Bool). isIn l k || b) (any-each (eqb k) next l))
 
   -- every round is made by a test on the numbers below n
   mark : ℕ → ℕ → ℕ → Bool
@@ -88,7 +90,8 @@ module _ (next : ℕ → List ℕ) (n : ℕ) where
 
   grow-in : (l : List ℕ) (k : ℕ) → k < n → T (isIn l k || any (λ j. isIn (next j) k) l) → T (isIn (grow next n l) k)
   grow-in l k h t =
-      subst T (sym (in-grow l k)) (and-both (isIn (range 0 n) k) (isIn l k || any (λ j. isIn (next j) k) l) (in-range 0 n k (omega arith) (omega arith)) t)
+      subst T (sym (in-grow l k))
+      (and-both (isIn (range 0 n) k) (isIn l k || any (λ j. isIn (next j) k) l) (in-range 0 n k (omega arith) (omega arith)) t)
 
   first-in : (start : ℕ) → start < n → (i : ℕ) → T (isIn (rounds next n start i) start)
   unfolding mark rounds
@@ -117,7 +120,8 @@ module _ (next : ℕ → List ℕ) (n : ℕ) where
         | inr l ↦ absurd (omega (arith, ap length (marked start n), keep-le (mark start n) (range 0 n), length-range 0 n))
       ]
 
-  pub closed : (start : ℕ) → start < n → (j k : ℕ) → T (isIn (reached next n start) j) → T (isIn (next j) k) → k < n → T (isIn (reached next n start) k)
+  pub closed : (start : ℕ) → start < n → (j k : ℕ) → T (isIn (reached next n start) j)
+      → T (isIn (next j) k) → k < n → T (isIn (reached next n start) k)
   unfolding reached rounds
   closed start h j k tj tk hk =
       let l = rounds next n start n in
@@ -132,10 +136,12 @@ module _ (next : ℕ → List ℕ) (n : ℕ) where
   sound-at start (suc i) k t = go (λ j. sound-at start i j) (subst T (in-grow (rounds next n start i) k) t)
     where
       go : ((j : ℕ) → T (isIn (rounds next n start i) j) → Reach next start j)
-          → T (isIn (range 0 n) k && (isIn (rounds next n start i) k || any (λ j. isIn (next j) k) (rounds next n start i))) → Reach next start k
+          → T (isIn (range 0 n) k && (isIn (rounds next n start i) k || any (λ j. isIn (next j) k) (rounds next n start i)))
+          → Reach next start k
       go ih t =
           let l = rounds next n start i in
-          elim (or-cases (isIn l k) (any (λ j. isIn (next j) k) l) (and-right (isIn (range 0 n) k) (isIn l k || any (λ j. isIn (next j) k) l) t)) [
+          let near = any (λ j. isIn (next j) k) l in
+          elim (or-cases (isIn l k) near (and-right (isIn (range 0 n) k) (isIn l k || near) t)) [
             | inl a ↦ ih k a
             | inr a ↦ (let w = any-in (λ j. isIn (next j) k) l a in step (ih (w .0) (w .1 .0)) (w .1 .1))
           ]

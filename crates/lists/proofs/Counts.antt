@@ -133,7 +133,8 @@ module _ {A : Type 0} where
   -- two that pass are one, where at most one passes
   pub count-one : (p : A → Bool) {l : List A} {a b : A} → count p l ≤ 1 → In a l → In b l → T (p a) → T (p b) → a ≡ b
   count-one p {l} {a} {b} h i j s t =
-      one-member (λ a. one-if (p a)) (omega (arith, count-sum p l)) i j (λ z. omega (arith, one-at (p a) s)) (λ z. omega (arith, one-at (p b) t))
+      one-member (λ a. one-if (p a)) (omega (arith, count-sum p l)) i j
+      (λ z. omega (arith, one-at (p a) s)) (λ z. omega (arith, one-at (p b) t))
 
   -- those that pass, where each of them adds to a sum
   pub count-le-sum : (p : A → Bool) (f : A → ℕ) (l : List A) → ((a : A) → T (p a) → 0 < f a) → count p l ≤ sum f l
@@ -155,7 +156,8 @@ module _ {A : Type 0} where
   count-keep p q [] f = refl
   count-keep p q (x ∷ l) f = go (q x) refl (count-keep p q l (λ a i. f a (there i))) ∙ sym (count-step p x l)
     where
-      go : (b : Bool) → q x ≡ b → count p (keep q l) ≡ count p l → count p (consIf b x (keep q l)) ≡ cond (p x) (suc (count p l)) (count p l)
+      go : (b : Bool) → q x ≡ b → count p (keep q l) ≡ count p l
+          → count p (consIf b x (keep q l)) ≡ cond (p x) (suc (count p l)) (count p l)
       go true e r = count-step p x (keep q l) ∙ ap (λ (n : ℕ). cond (p x) (suc n) n) r
       go false e r = r ∙ ap (λ (b : Bool). cond b (suc (count p l)) (count p l)) (sym (T→false (p x) (λ t. subst T e (f x (here refl) t))))
 
@@ -170,10 +172,12 @@ module _ {A B : Type 0} where
       count-more p (f x) (map f l) ∙ (ap (λ (n : ℕ). one-if (p (f x)) + n) (count-map p f l) ∙ sym (count-more (λ a. p (f a)) x l))
 
 -- two places whose members pass are one, where at most one member passes
-pub one-place : {A : Type 0} (p : A → Bool) (l : List A) (d : A) (i j : ℕ) → count p l ≤ 1 → i < length l → j < length l → T (p (getD l i d)) → T (p (getD l j d)) → i ≡ j
+pub one-place : {A : Type 0} (p : A → Bool) (l : List A) (d : A) (i j : ℕ) → count p l ≤ 1
+    → i < length l → j < length l → T (p (getD l i d)) → T (p (getD l j d)) → i ≡ j
 one-place p l d i j h a b s t =
     count-one (λ k. p (getD l k d))
-    (omega (arith, count-map p (λ k. getD l k d) (range 0 (length l)), ap (count p) (along-list l d))) (in-run (length l) i a) (in-run (length l) j b) s t
+    (omega (arith, count-map p (λ k. getD l k d) (range 0 (length l)), ap (count p) (along-list l d)))
+    (in-run (length l) i a) (in-run (length l) j b) s t
 
 -- ── without a repeat ──
 
@@ -204,7 +208,9 @@ module _ {A : Type 0} where
     where
       zero-or : (k : ℕ) → count p l ≡ k → T (p x) → count p l ≡ 0
       zero-or zero e t = e
-      zero-or (suc k) e t = let w = pick p l (λ q. omega arith) in absurd (n (Memᴰ·cast (h x (w .0) (here refl) (there (w .1)) t (w .2)) (w .1)))
+      zero-or (suc k) e t =
+          let w = pick p l (λ q. omega arith) in
+          absurd (n (Memᴰ·cast (h x (w .0) (here refl) (there (w .1)) t (w .2)) (w .1)))
 
       go : (b : Bool) → p x ≡ b → count p l ≤ 1 → count p (x ∷ l) ≡ cond b 1 0 + count p l → count p (x ∷ l) ≤ 1
       go true e r q = omega (arith, zero-or (count p l) refl (eq→T e))
@@ -236,14 +242,18 @@ count-unique {e} u i =
 -- two numbers that are alike are one, where none is alike to an earlier one
 pub by-order : (P : ℕ → ℕ → Type 0) → ((i j : ℕ) → j < i → P i j → ⊥) → ((i j : ℕ) → P i j → P j i) → (i j : ℕ) → P i j → i ≡ j
 by-order P h turn i j p =
-    elim (ℕ-discrete i j) [ yes e ↦ e | no n ↦ elim (decLt i j) [ yes l ↦ absurd (h j i l (turn i j p)) | no l ↦ absurd (h i j (omega arith) p) ] ]
+    elim (ℕ-discrete i j) [
+      | yes e ↦ e
+      | no n ↦ elim (decLt i j) [ yes l ↦ absurd (h j i l (turn i j p)) | no l ↦ absurd (h i j (omega arith) p) ]
+    ]
 
 -- at most one of a run passes, where none does after another
 pub few-along : (p : ℕ → Bool) (n : ℕ) → ((i j : ℕ) → i < n → j < i → T (p i) → T (p j) → ⊥) → count p (range 0 n) ≤ 1
 few-along p n h =
     few p (range-unique 0 n)
     (λ i j a b s t.
-    by-order (λ i j. (i < n) × (j < n) × T (p i) × T (p j)) (λ i j l q. h i j (q .0) l (q .2) (q .3)) (λ i j q. (q .1, q .0, q .3, q .2)) i j
+    by-order (λ i j. (i < n) × (j < n) × T (p i) × T (p j))
+    (λ i j l q. h i j (q .0) l (q .2) (q .3)) (λ i j q. (q .1, q .0, q .3, q .2)) i j
     (below n i a, below n j b, s, t))
 
 -- what a run makes has no repeat, where nothing is made again
@@ -257,12 +267,14 @@ along-unique f n h =
 -- ── two lists that match ──
 
 -- counting by either list
-exchange : {A B : Type 0} (rel : A → B → Bool) (l : List A) (us : List B) → sum (λ a. count (rel a) us) l ≡ sum (λ u. count (λ a. rel a u) l) us
+exchange : {A B : Type 0} (rel : A → B → Bool) (l : List A) (us : List B)
+    → sum (λ a. count (rel a) us) l ≡ sum (λ u. count (λ a. rel a u) l) us
 exchange rel [] us = sym (sum-zero us)
 exchange rel (x ∷ l) us =
     (λ i. count-sum (rel x) us i + exchange rel l us i)
     ∙ (sym (sum-add (λ u. one-if (rel x u)) (λ u. count (λ a. rel a u) l) us)
-    ∙ sum-same (λ u. one-if (rel x u) + count (λ a. rel a u) l) (λ u. count (λ a. rel a u) (x ∷ l)) us (λ u. sym (count-more (λ a. rel a u) x l)))
+    ∙ sum-same (λ u. one-if (rel x u) + count (λ a. rel a u) l) (λ u. count (λ a. rel a u) (x ∷ l)) us
+    (λ u. sym (count-more (λ a. rel a u) x l)))
 
 -- where each of the first matches one of the second, and no two of the first the same, the lists are equally long exactly when
 -- each of the second is matched

@@ -69,7 +69,8 @@ module _ {A : Type 0} where
       (λ k t. s k (subst T (sym (any-append (eqb k) (g x) (each g xs))) (or-right (isIn (g x) k) (isIn (each g xs) k) t))))
 
   -- an entry that passes, at its place among those that pass
-  pub pick-in : (f : A → ℕ) (q : A → Bool) (l : List A) (d : A) (j : ℕ) → T (getD (map q l) j false) → T (isIn (map f (keep q l)) (f (getD l j d)))
+  pub pick-in : (f : A → ℕ) (q : A → Bool) (l : List A) (d : A) (j : ℕ)
+      → T (getD (map q l) j false) → T (isIn (map f (keep q l)) (f (getD l j d)))
   pick-in f q [] d j t = absurd t
   pick-in f q (x ∷ xs) d zero t = go (q x) t
     where

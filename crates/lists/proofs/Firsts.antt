@@ -11,9 +11,11 @@ use Rattle.lists.proofs.Runs.{first-at, first-none}
 -- what comes before it does not pass
 before-from : (p : ℕ → Bool) (d i n : ℕ) → i + n ≡ d → ((k : ℕ) → k < i → p k ≡ false) → (k : ℕ) → k < first p d (range i n) → p k ≡ false
 before-from p d i zero e f k h = f k (omega arith)
-before-from p d i (suc n) e f k h = go (p i) refl h (λ q g. before-from p d (suc i) n (omega arith) (λ k l. below-more (λ k. p k ≡ false) i f q k (omega arith)) k g)
+before-from p d i (suc n) e f k h =
+    go (p i) refl h (λ q g. before-from p d (suc i) n (omega arith) (λ k l. below-more (λ k. p k ≡ false) i f q k (omega arith)) k g)
   where
-    go : (b : Bool) → p i ≡ b → k < cond b i (first p d (range (suc i) n)) → (p i ≡ false → k < first p d (range (suc i) n) → p k ≡ false) → p k ≡ false
+    go : (b : Bool) → p i ≡ b → k < cond b i (first p d (range (suc i) n))
+        → (p i ≡ false → k < first p d (range (suc i) n) → p k ≡ false) → p k ≡ false
     go true q h r = f k h
     go false q h r = r q h
 
@@ -38,11 +40,15 @@ first-holds p d i (suc n) h = go (p i) refl h (λ g. first-holds p d (suc i) n g
     go false q h f = f h
 
 -- two tests that agree at each number before which the first of them passes nowhere
-agree-from : (p q : ℕ → Bool) (d i n : ℕ) → i + n ≡ d → ((j : ℕ) → j < d → ((k : ℕ) → k < j → p k ≡ false) → p j ≡ q j) → ((k : ℕ) → k < i → p k ≡ false)
-    → first p d (range i n) ≡ first q d (range i n)
+agree-from : (p q : ℕ → Bool) (d i n : ℕ) → i + n ≡ d → ((j : ℕ) → j < d → ((k : ℕ) → k < j → p k ≡ false) → p j ≡ q j)
+    → ((k : ℕ) → k < i → p k ≡ false) → first p d (range i n) ≡ first q d (range i n)
 agree-from p q d i zero e f h = refl
 agree-from p q d i (suc n) e f h =
-    ap (λ (b : Bool). cond b i (first p d (range (suc i) n))) (f i (omega arith) h) ∙ go (q i) (λ g. agree-from p q d (suc i) n (omega arith) f (λ k l. below-more (λ k. p k ≡ false) i h (f i (omega arith) h ∙ g) k (omega arith))) refl
+    let same = f i (omega arith) h in
+    ap (λ (b : Bool). cond b i (first p d (range (suc i) n))) same
+    ∙ go (q i)
+    (λ g. agree-from p q d (suc i) n (omega arith) f (λ k l. below-more (λ k. p k ≡ false) i h (same ∙ g) k (omega arith)))
+    refl
   where
     go : (b : Bool) → (q i ≡ false → first p d (range (suc i) n) ≡ first q d (range (suc i) n)) → q i ≡ b
         → cond b i (first p d (range (suc i) n)) ≡ cond b i (first q d (range (suc i) n))

@@ -37,7 +37,8 @@ range-rows w i (suc n) =
     let e : w * suc n ≡ w + w * n = omega arith in
     let q : w * i + w ≡ w * suc i = omega arith in
     ap (range (w * i)) e
-    ∙ (range-join (w * i) w (w * n) ∙ ap (λ (l : List ℕ). range (w * i) w ++ l) (ap (λ (a : ℕ). range a (w * n)) q ∙ range-rows w (suc i) n))
+    ∙ (range-join (w * i) w (w * n)
+    ∙ ap (λ (l : List ℕ). range (w * i) w ++ l) (ap (λ (a : ℕ). range a (w * n)) q ∙ range-rows w (suc i) n))
 
 module _ {A : Type 0} (p : A → Bool) where
   pub keep-append : (l m : List A) → keep p (l ++ m) ≡ keep p l ++ keep p m
@@ -87,7 +88,13 @@ each-prefix f m n h =
     let r = range 0 m in
     let s = range (0 + m) (n - m) in
     let e : m + (n - m) ≡ n = omega arith in
-    omega (arith, ap (λ (k : ℕ). length (each f (range 0 k))) e, ap (λ (l : List ℕ). length (each f l)) (range-join 0 m (n - m)), ap length (each-append f r s), length-append (each f r) (each f s))
+    omega (
+      arith,
+      ap (λ (k : ℕ). length (each f (range 0 k))) e,
+      ap (λ (l : List ℕ). length (each f l)) (range-join 0 m (n - m)),
+      ap length (each-append f r s),
+      length-append (each f r) (each f s),
+    )
 
 -- the first that passes
 pub first-none : (p : ℕ → Bool) (d i n : ℕ) → ((k : ℕ) → i ≤ k → k < i + n → p k ≡ false) → first p d (range i n) ≡ d
@@ -96,7 +103,8 @@ first-none p d i (suc n) h =
     ap (λ (b : Bool). cond b i (first p d (range (suc i) n))) (h i (omega arith) (omega arith))
     ∙ first-none p d (suc i) n (λ k a b. h k (omega arith) (omega arith))
 
-pub first-at : (p : ℕ → Bool) (d i n m : ℕ) → i ≤ m → m < i + n → ((k : ℕ) → i ≤ k → k < m → p k ≡ false) → p m ≡ true → first p d (range i n) ≡ m
+pub first-at : (p : ℕ → Bool) (d i n m : ℕ) → i ≤ m → m < i + n
+    → ((k : ℕ) → i ≤ k → k < m → p k ≡ false) → p m ≡ true → first p d (range i n) ≡ m
 first-at p d i zero m a b h t = absurd (omega arith)
 first-at p d i (suc n) m a b h t =
     go (eqb m i) refl (λ g. first-at p d (suc i) n m g (omega arith) (λ k a′ b′. h k (omega arith) b′) t)
@@ -186,7 +194,8 @@ rank-place (x ∷ xs) b d e r t = go (or-cases (eqb e x) (isIn xs e) t) (λ q. r
     go : T (eqb e x) ⊎ T (isIn xs e) → (T (isIn xs e) → getD xs (rank xs e) d ≡ e) → getD (x ∷ xs) (rank (x ∷ xs) e) d ≡ e
     go (inl q) f =
         at-head false (le-ltb x e (omega (arith, eqb→eq e x q)))
-        ∙ (ap (λ (l : List ℕ). getD (x ∷ xs) (length l) d) (none-below xs (suc x) e (omega (arith, eqb→eq e x q)) (r .1)) ∙ sym (eqb→eq e x q))
+        ∙ (ap (λ (l : List ℕ). getD (x ∷ xs) (length l) d) (none-below xs (suc x) e (omega (arith, eqb→eq e x q)) (r .1))
+        ∙ sym (eqb→eq e x q))
     go (inr q) f = at-head true (lt-ltb x e (rising-ge xs (suc x) e (r .1) q)) ∙ f q
 
 -- a function along a list, at a place of it

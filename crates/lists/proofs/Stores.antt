@@ -7,7 +7,8 @@ use native.Mathlib.Omega.{arith}
 use native.Mathlib.Nat.{add-zero, zero-add}
 use native.Mathlib.Numerals.{add-one}
 use lib.Dec.{eqb}
-use lib.ListN.{length, getD, drop, set, replicate, length-set, length-append, length-replicate, length-drop, getD-replicate, List·getD-append}
+use lib.ListN.{length, getD, drop, set, replicate, length-set, length-append}
+use lib.ListN.{length-replicate, length-drop, getD-replicate, List·getD-append}
 use lib.Seq.{sets, sets-eq, drop-at, drop-set-lt, getD-set-same, getD-set-other}
 use borrow.Author.Tests.{eqb-true, eqb-false}
 use Rattle.lists.specs.Lists.{each, isIn, over, stored, cleared, Beyond}

@@ -1,7 +1,8 @@
 -- Membership as a fact, `In a l`: of the lists that the definitions make, and what holds of each member. Assumes nothing.
 use mathlib.Core.Path.{_≡_, refl, sym, ap, _∙_, subst}
 use mathlib.Core.Bool.{Bool, true, false, not, _&&_, _||_, and-assoc}
-use mathlib.Core.List.{List, [], _∷_, _++_, map, List·Memᴰ as In, List·Memᴰ·head as here, List·Memᴰ·tail as there, Memᴰ·cast, Memᴰ·append-left, Memᴰ·append-right, List·Memᴰ·append-cases, Memᴰ·of-map, map-append}
+use mathlib.Core.List.{List, [], _∷_, _++_, map, List·Memᴰ as In, List·Memᴰ·head as here, List·Memᴰ·tail as there}
+use mathlib.Core.List.{Memᴰ·cast, Memᴰ·append-left, Memᴰ·append-right, List·Memᴰ·append-cases, Memᴰ·of-map, map-append}
 use mathlib.Core.Logic.{_⊎_, inl, inr}
 use Prim.Native.Nat.{ℕ, zero, suc, _<_}
 use native.Mathlib.Omega.{arith}
@@ -69,7 +70,8 @@ module _ {A : Type 0} where
       go false q j r = let m : In a l × T (p a) = r j in (there (m .0), m .1)
 
   pub in-keep : (p : A → Bool) {l : List A} {a : A} → In a l → T (p a) → In a (keep p l)
-  in-keep p {l = x ∷ l} {a = a} (here e) t = subst (λ (b : Bool). In a (consIf b x (keep p l))) (sym (T→eq (p x) (subst (λ k. T (p k)) e t))) (here e)
+  in-keep p {l = x ∷ l} {a = a} (here e) t =
+      subst (λ (b : Bool). In a (consIf b x (keep p l))) (sym (T→eq (p x) (subst (λ k. T (p k)) e t))) (here e)
   in-keep p {l = x ∷ l} {a = a} (there i) t = go (p x) (in-keep p i t)
     where
       go : (b : Bool) → In a (keep p l) → In a (consIf b x (keep p l))

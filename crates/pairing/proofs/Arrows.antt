@@ -8,7 +8,8 @@ use Rattle.pairing.specs.Pairing.{Arrow, isArrow}
 
 pub is-arrow : (m n : ℕ) (d : Arrow) → T (isArrow m n d) → (d .from ≡ m) × (d .to ≡ n)
 unfolding isArrow
-is-arrow m n d t = (eqb→eq (d .from) m (and-left (eqb (d .from) m) (eqb (d .to) n) t), eqb→eq (d .to) n (and-right (eqb (d .from) m) (eqb (d .to) n) t))
+is-arrow m n d t =
+    (eqb→eq (d .from) m (and-left (eqb (d .from) m) (eqb (d .to) n) t), eqb→eq (d .to) n (and-right (eqb (d .from) m) (eqb (d .to) n) t))
 
 pub arrow-is : {m n : ℕ} {d : Arrow} → d .from ≡ m → d .to ≡ n → T (isArrow m n d)
 unfolding isArrow

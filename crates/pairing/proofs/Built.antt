@@ -24,7 +24,8 @@ module _ (rule : Rule) (L : Lattice) (sized : Sized (L .size)) (start : ℕ) (in
   pub demand : Demand3By apart L start (S .edges) (S .triangles)
   demand =
       let u = edges-unique rule L start in
-      let below : (t : Tri) → In t (S .triangles) → Below (length (S .edges)) t = λ t i. of-all (Below (length (S .edges))) (indices-below rule L sized start) i in
+      let below : (t : Tri) → In t (S .triangles) → Below (length (S .edges)) t =
+      λ t i. of-all (Below (length (S .edges))) (indices-below rule L sized start) i in
       record {
         vertices = one-vertex rule L sized start inside;
         numbers = times-below (S .edges) u (S .triangles) below;

@@ -49,7 +49,7 @@ module _ (z : Sizes) (air : Place → Bool) (p : Place) where
   unfolding trianglesAt rowAt trisIn
   triangles-are =
       go tets
-      ∙ sym (map-each (named (number z p)) (λ t. map (codeTri t) (getD rows (rowOf (air (corner p (t .a))) (air (corner p (t .b))) (air (corner p (t .c))) (air (corner p (t .d)))) [])) tets)
+      ∙ sym (map-each (named (number z p)) (λ t. map (codeTri t) (at t)) tets)
     where
       at : Tet → List Tri
       at t = getD rows (rowOf (air (corner p (t .a))) (air (corner p (t .b))) (air (corner p (t .c))) (air (corner p (t .d)))) []
@@ -112,9 +112,12 @@ module _ (z : Sizes) where
       let q : corner m (w / 8) ≡ corner m′ (w′ / 8) = sym (anchor-of b) ∙ ap (anchorOf z) f ∙ anchor-of d in
       let k : u % 8 ≡ u′ % 8 = sym (kind-of a) ∙ ap kindIn e ∙ kind-of c in
       let l : w % 8 ≡ w′ % 8 = sym (kind-of b) ∙ ap kindIn f ∙ kind-of d in
-      let x = same-axis (m .x) (m′ .x) (u / 8 % 2) (w / 8 % 2) (u′ / 8 % 2) (w′ / 8 % 2) (ap (λ (r : Place). r .x) p) (ap (λ (r : Place). r .x) q) (s .x) (t .x) in
-      let y = same-axis (m .y) (m′ .y) (u / 8 / 2 % 2) (w / 8 / 2 % 2) (u′ / 8 / 2 % 2) (w′ / 8 / 2 % 2) (ap (λ (r : Place). r .y) p) (ap (λ (r : Place). r .y) q) (s .y) (t .y) in
-      let v = same-axis (m .z) (m′ .z) (u / 8 / 4) (w / 8 / 4) (u′ / 8 / 4) (w′ / 8 / 4) (ap (λ (r : Place). r .z) p) (ap (λ (r : Place). r .z) q) (s .z) (t .z) in
+      let x = same-axis (m .x) (m′ .x) (u / 8 % 2) (w / 8 % 2) (u′ / 8 % 2) (w′ / 8 % 2)
+      (ap (λ (r : Place). r .x) p) (ap (λ (r : Place). r .x) q) (s .x) (t .x) in
+      let y = same-axis (m .y) (m′ .y) (u / 8 / 2 % 2) (w / 8 / 2 % 2) (u′ / 8 / 2 % 2) (w′ / 8 / 2 % 2)
+      (ap (λ (r : Place). r .y) p) (ap (λ (r : Place). r .y) q) (s .y) (t .y) in
+      let v = same-axis (m .z) (m′ .z) (u / 8 / 4) (w / 8 / 4) (u′ / 8 / 4) (w′ / 8 / 4)
+      (ap (λ (r : Place). r .z) p) (ap (λ (r : Place). r .z) q) (s .z) (t .z) in
       record {
         place = λ i. place (x .0 i) (y .0 i) (v .0 i);
         first = same-code u u′ k (x .1) (y .1) (v .1);

@@ -41,7 +41,8 @@ level g m h v ps t = bool-same (all (λ p. eqb (g p) v) (map (add m) ps)) (all (
         let e : g (o .0) ≡ 0 = eqb→eq (g (o .0)) 0 (o .2) in
         let b : g m + g (o .0) ≡ v = at s (o .0) (o .1) in
         let a : g m ≡ v = omega arith in
-        and-both (all (λ q. eqb (g q) 0) ps) (eqb (g m) v) (in-all-test (λ q. eqb (g q) 0) ps (λ q i. eqb-of {a = g q} {b = 0} (omega (arith, at s q i)))) (eqb-of a)
+        and-both (all (λ q. eqb (g q) 0) ps) (eqb (g m) v)
+        (in-all-test (λ q. eqb (g q) 0) ps (λ q i. eqb-of {a = g q} {b = 0} (omega (arith, at s q i)))) (eqb-of a)
 
     from : T (all (λ q. eqb (g q) 0) ps && eqb (g m) v) → T (all (λ p. eqb (g p) v) (map (add m) ps))
     from s =
@@ -70,7 +71,8 @@ ends-are z {m} {u} e =
 -- which of three faces it is, by the axis that is not left
 by-axis : (may : Place → Bool) (m : Place) (a b c p q r : Bool) → T (not (a && b)) → T (not (a && c)) → T (not (b && c))
     → let f : ℕ = cond a 1 (cond b 2 (cond c 4 0)) in
-    (f ≡ 1 → p ≡ not (shared may 1 m)) → (f ≡ 2 → q ≡ not (shared may 2 m)) → (f ≡ 4 → r ≡ not (shared may 4 m)) → (a && p || b && q || c && r) ≡ lone may f m
+    (f ≡ 1 → p ≡ not (shared may 1 m)) → (f ≡ 2 → q ≡ not (shared may 2 m))
+    → (f ≡ 4 → r ≡ not (shared may 4 m)) → (a && p || b && q || c && r) ≡ lone may f m
 by-axis may m true true c p q r s t v f g h = absurd s
 by-axis may m true false true p q r s t v f g h = absurd t
 by-axis may m true false false p q r s t v f g h = or-false (p || false) ∙ or-false p ∙ f refl
@@ -85,7 +87,8 @@ by-axis may m false false false p q r s t v f g h = refl
 rim : (v n : ℕ) (b : Bool) → v < n → (T b → (0 < v) × (v + 1 < n)) → (0 < v → v + 1 < n → T b) → (eqb v 0 || eqb v (n - 1)) ≡ not b
 rim v n true h to from =
     let t = to tt in
-    (λ i. T→false (eqb v 0) (λ y. omega (arith, eqb→eq v 0 y, t)) i || T→false (eqb v (n - 1)) (λ y. omega (arith, eqb→eq v (n - 1) y, t)) i)
+    (λ i. T→false (eqb v 0) (λ y. omega (arith, eqb→eq v 0 y, t)) i
+    || T→false (eqb v (n - 1)) (λ y. omega (arith, eqb→eq v (n - 1) y, t)) i)
 rim v n false h to from = go (eqb v 0) refl (eqb v (n - 1)) refl
   where
     go : (a : Bool) → eqb v 0 ≡ a → (c : Bool) → eqb v (n - 1) ≡ c → (a || c) ≡ true
@@ -104,7 +107,8 @@ module _ (z : Sizes) (m : Place) where
       let b = shared-before (inLattice z) a m t in
       (in-lattice z m (shared-after (inLattice z) a m t), (b .cube, off a (b .cube) m (b .there)))
 
-  share : (a : ℕ) → CubeIn z m → (d : Place) → CubeIn z d → d .x + a % 2 ≡ m .x → d .y + a / 2 % 2 ≡ m .y → d .z + a / 4 ≡ m .z → T (shared (inLattice z) a m)
+  share : (a : ℕ) → CubeIn z m → (d : Place) → CubeIn z d → d .x + a % 2 ≡ m .x
+      → d .y + a / 2 % 2 ≡ m .y → d .z + a / 4 ≡ m .z → T (shared (inLattice z) a m)
   share a h d k x y w = is-shared (inLattice z) a m (lattice-in z m h) d (along a d (m .x) (m .y) (m .z) x y w) (lattice-in z d k)
 
   near-lt : {a : ℕ} → Near z a m → (m .x + 1 < z .nx + a % 2) × (m .y + 1 < z .ny + a / 2 % 2) × (m .z + 1 < z .nz + a / 4)
@@ -113,7 +117,8 @@ module _ (z : Sizes) (m : Place) where
       let i = n .inside in
       elim (n .own) [
         | inl e ↦ omega (arith, f, i, e)
-        | inr e ↦ subst (λ (k : ℕ). (m .x + 1 < z .nx + k % 2) × (m .y + 1 < z .ny + k / 2 % 2) × (m .z + 1 < z .nz + k / 4)) e (omega (arith, f, i))
+        | inr e ↦ subst (λ (k : ℕ). (m .x + 1 < z .nx + k % 2) × (m .y + 1 < z .ny + k / 2 % 2) × (m .z + 1 < z .nz + k / 4)) e
+            (omega (arith, f, i))
       ]
 
   rim-x : Near z 1 m → (eqb (m .x) 0 || eqb (m .x) (z .nx - 1)) ≡ not (shared (inLattice z) 1 m)
@@ -150,7 +155,8 @@ module _ (z : Sizes) (air : Place → Bool) {e f : ℕ} {m : Place} {u w : ℕ} 
 
   ends-of : edgeEnds z e ++ edgeEnds z f ≡ map (add m) both
   ends-of =
-      (λ i. edgeEnds z (k .e-is i) ++ edgeEnds z (k .f-is i)) ∙ (λ i. ends-are z (k .first) i ++ ends-are z (k .second) i) ∙ sym (map-append (add m) (span u) (span w))
+      (λ i. edgeEnds z (k .e-is i) ++ edgeEnds z (k .f-is i))
+      ∙ (λ i. ends-are z (k .first) i ++ ends-are z (k .second) i) ∙ sym (map-append (add m) (span u) (span w))
 
   meet-is : meet z e f ≡ m
   unfolding meet corner
@@ -186,8 +192,8 @@ module _ (z : Sizes) (air : Place → Bool) {e f : ℕ} {m : Place} {u w : ℕ} 
       ∙ (λ i.
       here-it-is (flatX u w) (m .x) i && not (shared may 1 m) || here-it-is (flatY u w) (m .y) i && not (shared may 2 m)
       || here-it-is (flatZ u w) (m .z) i && not (shared may 4 m))
-      ∙ by-axis may m (flatX u w) (flatY u w) (flatZ u w) (not (shared may 1 m)) (not (shared may 2 m)) (not (shared may 4 m)) (k .shape .not-xy) (k .shape .not-xz)
-      (k .shape .not-yz) (λ t. refl) (λ t. refl) (λ t. refl)
+      ∙ by-axis may m (flatX u w) (flatY u w) (flatZ u w) (not (shared may 1 m)) (not (shared may 2 m)) (not (shared may 4 m))
+      (k .shape .not-xy) (k .shape .not-xz) (k .shape .not-yz) (λ t. refl) (λ t. refl) (λ t. refl)
 
   pub outer-is : Near z (flat u w) m → outer z e f ≡ lone (inLattice z) (flat u w) m
   unfolding outer inOuterFace flat
@@ -197,7 +203,8 @@ module _ (z : Sizes) (air : Place → Bool) {e f : ℕ} {m : Place} {u w : ℕ} 
       ∙ (λ i.
       and-or (flatX u w) (eqb (m .x) 0) (eqb (m .x) (z .nx - 1)) i || and-or (flatY u w) (eqb (m .y) 0) (eqb (m .y) (z .ny - 1)) i
       || and-or (flatZ u w) (eqb (m .z) 0) (eqb (m .z) (z .nz - 1)) i)
-      ∙ by-axis (inLattice z) m (flatX u w) (flatY u w) (flatZ u w) (eqb (m .x) 0 || eqb (m .x) (z .nx - 1)) (eqb (m .y) 0 || eqb (m .y) (z .ny - 1))
-      (eqb (m .z) 0 || eqb (m .z) (z .nz - 1)) (k .shape .not-xy) (k .shape .not-xz) (k .shape .not-yz)
+      ∙ by-axis (inLattice z) m (flatX u w) (flatY u w) (flatZ u w)
+      (eqb (m .x) 0 || eqb (m .x) (z .nx - 1)) (eqb (m .y) 0 || eqb (m .y) (z .ny - 1)) (eqb (m .z) 0 || eqb (m .z) (z .nz - 1))
+      (k .shape .not-xy) (k .shape .not-xz) (k .shape .not-yz)
       (λ q. rim-x z m (subst (λ (a : ℕ). Near z a m) q n)) (λ q. rim-y z m (subst (λ (a : ℕ). Near z a m) q n))
       (λ q. rim-z z m (subst (λ (a : ℕ). Near z a m) q n))

@@ -13,7 +13,8 @@ use Rattle.lists.proofs.Closure.{closed}
 use Rattle.paper.specs.declared.Sizes.{Sizes}
 use Rattle.paper.specs.declared.Place.{Place}
 use Rattle.paper.specs.declared.Rule.{Rule}
-use Rattle.paper.specs.Lattice.{Lattice, airAt, noFill, cubes, cubeNo, cubeAt, corner, mixed, mixedAt, visitable, Face, faces, stepOver, steps, visited}
+use Rattle.paper.specs.Lattice.{Lattice, airAt, noFill, cubes, cubeNo, cubeAt, corner, mixed}
+use Rattle.paper.specs.Lattice.{mixedAt, visitable, Face, faces, stepOver, steps, visited}
 use Rattle.paper.specs.Within.{Sized, CubeIn}
 use Rattle.paper.specs.Tables.{Tri}
 use Rattle.paper.specs.Sheet.{trianglesAt, cubeTriangles, sheetOf}
@@ -31,17 +32,21 @@ use Rattle.pairing.proofs.Whole.{Spread, Settled, same-place, place-sam
 use Rattle.pairing.proofs.Outer.{unshared-is, outer-is}
 
 -- ── any cubes that may be visited ──
-module _ (z : Sizes) (air may : Place → Bool) (within : (p : Place) → T (may p) → CubeIn z p) (vs : List Place) (sp : Spread air may vs) where
+module _ (z : Sizes) (air may : Place → Bool) (within : (p : Place) → T (may p) → CubeIn z p)
+    (vs : List Place) (sp : Spread air may vs) where
   abbrev sheet : List Tri
   sheet = each (trianglesAt z air) vs
 
   settle : (e f : ℕ) → 0 < times sheet e f → Settled z air may within vs sp e f
   settle e f h = settled z air may within vs sp e f (λ y. omega (arith, times-are z air may within vs sp e f, y))
 
-  pub paired-where : (apart : ℕ → ℕ → Bool) → ((e f : ℕ) (s : Settled z air may within vs sp e f) → apart e f ≡ lone may (flat (s .u) (s .w)) (s .m)) → Paired apart sheet
+  pub paired-where : (apart : ℕ → ℕ → Bool)
+      → ((e f : ℕ) (s : Settled z air may within vs sp e f) → apart e f ≡ lone may (flat (s .u) (s .w)) (s .m)) → Paired apart sheet
   paired-where apart h = record {
     once = λ e f n. times-are z air may within vs sp e f ∙ settle e f n .once;
-    reverse = λ e f n. times-are z air may within vs sp f e ∙ settle e f n .reverse ∙ sym (ap (λ (b : Bool). cond {A = ℕ} b 0 1) (h e f (settle e f n)));
+    reverse =
+        λ e f n. times-are z air may within vs sp f e ∙ settle e f n .reverse
+        ∙ sym (ap (λ (b : Bool). cond {A = ℕ} b 0 1) (h e f (settle e f n)));
   }
 
   -- the reverse of a directed edge is missing just where both edges lie in a face that two visitable cubes do not share
@@ -85,7 +90,8 @@ module _ (L : Lattice) (sized : Sized (L .size)) (start : ℕ) (inside : start <
   abbrev places : List Place
   places = map (cubeAt z) (visited L start)
 
-  step-in : (n : ℕ) (f : Face) → In f (faces (cubeAt z n)) → T (f .there) → T (mixed (map (λ c. airAt L (corner (cubeAt z n) c)) (f .corners)))
+  step-in : (n : ℕ) (f : Face) → In f (faces (cubeAt z n)) → T (f .there)
+      → T (mixed (map (λ c. airAt L (corner (cubeAt z n) c)) (f .corners)))
       → T (visitable L (f .beyond)) → T (isIn (steps L n) (cubeNo z (f .beyond)))
   unfolding steps stepOver mixedAt
   step-in n f i h t k =
@@ -122,15 +128,17 @@ module _ (L : Lattice) (sized : Sized (L .size)) (start : ℕ) (inside : start <
     step = over;
   }
     where
-      over : (p : Place) (f : Face) → In p places → In f (faces p) → T (f .there) → T (mixed (map (λ c. airAt L (corner p c)) (f .corners))) → T (visitable L (f .beyond))
-          → In (f .beyond) places
+      over : (p : Place) (f : Face) → In p places → In f (faces p) → T (f .there)
+          → T (mixed (map (λ c. airAt L (corner p c)) (f .corners))) → T (visitable L (f .beyond)) → In (f .beyond) places
       over p f i j h t k =
           let m = map-in (cubeAt z) (visited L start) p i in
           let n = m .0 in
           let e : p ≡ cubeAt z n = m .2 in
           let c = visitable-in L (f .beyond) k in
-          let g = step-in n f (subst (λ (q : Place). In f (faces q)) e j) h (subst (λ (q : Place). T (mixed (map (λ c. airAt L (corner q c)) (f .corners)))) e t) k in
-          Memᴰ·cast (sym (cube-place z (f .beyond) (omega (arith, c .x)) (omega (arith, c .y)))) (in-map (cubeAt z) (visited-step n (cubeNo z (f .beyond)) (m .1) g))
+          let g = step-in n f (subst (λ (q : Place). In f (faces q)) e j) h
+          (subst (λ (q : Place). T (mixed (map (λ c. airAt L (corner q c)) (f .corners)))) e t) k in
+          Memᴰ·cast (sym (cube-place z (f .beyond) (omega (arith, c .x)) (omega (arith, c .y))))
+          (in-map (cubeAt z) (visited-step n (cubeNo z (f .beyond)) (m .1) g))
 
   triangles-are : (rule : Rule) → sheetOf rule L start .byEdge ≡ each (trianglesAt z (airAt L)) places
   unfolding cubeTriangles

@@ -17,7 +17,8 @@ use Rattle.paper.proofs.Numbers.{corner-inside}
 use Rattle.pairing.specs.Pairing.{Arrow, around, isArrow}
 use Rattle.lists.proofs.Counts.{pick, count-map, count-same}
 use Rattle.pairing.proofs.Arrows.{is-arrow, arrow-is}
-use Rattle.pairing.proofs.Table.{Side, sideOf, same, is-same, same-is, sides, arrowsIn, sides-are, Good, good-at, Moved, Shape, Neat, neat-at, flat, Axis, across, lowRow, highRow}
+use Rattle.pairing.proofs.Table.{Side, sideOf, same, is-same, same-is, sides, arrowsIn, sides-are, Good}
+use Rattle.pairing.proofs.Table.{good-at, Moved, Shape, Neat, neat-at, flat, Axis, across, lowRow, highRow}
 use Rattle.pairing.proofs.Names.{namedArrow}
 use Rattle.pairing.proofs.Edges.{number, arrows-are, number-moved, corner-moved, Edge, One, one-of}
 
@@ -50,7 +51,8 @@ corner-code p o k e =
     let c : p .z + o / 4 ≡ p .z + k / 4 = ap (λ (r : Place). r .z) e in
     omega arith
 
-corner-add : (p : Place) (a b c : ℕ) → a % 2 + b % 2 ≡ c % 2 → a / 2 % 2 + b / 2 % 2 ≡ c / 2 % 2 → a / 4 + b / 4 ≡ c / 4 → corner (corner p a) b ≡ corner p c
+corner-add : (p : Place) (a b c : ℕ) → a % 2 + b % 2 ≡ c % 2 → a / 2 % 2 + b / 2 % 2 ≡ c / 2 % 2
+    → a / 4 + b / 4 ≡ c / 4 → corner (corner p a) b ≡ corner p c
 unfolding corner
 corner-add p a b c h k l =
     let x : p .x + a % 2 + b % 2 ≡ p .x + c % 2 = omega arith in
@@ -62,11 +64,13 @@ corner-add p a b c h k l =
 pub side-good : (s : ℕ → Bool) (o u w : ℕ) → (count (same o u w) (sides s) ≡ 0 → ⊥) → Good s o u w
 side-good s o u w n =
     let l = arrowsIn s in
-    let q = pick (λ d. same o u w (sideOf d)) l (λ y. n (sym (ap (count (same o u w)) (sides-are s)) ∙ count-map (same o u w) sideOf l ∙ y)) in
+    let q =
+    pick (λ d. same o u w (sideOf d)) l (λ y. n (sym (ap (count (same o u w)) (sides-are s)) ∙ count-map (same o u w) sideOf l ∙ y)) in
     let e = sideOf (q .0) in
     let r = is-same o u w e (q .2) in
     subst (λ (x : ℕ). Good s x u w) (sym (r .offset))
-    (subst (λ (x : ℕ). Good s (e .o) x w) (sym (r .first)) (subst (λ (x : ℕ). Good s (e .o) (e .u) x) (sym (r .second)) (good-at s (q .0) (q .1))))
+    (subst (λ (x : ℕ). Good s (e .o) x w) (sym (r .first))
+    (subst (λ (x : ℕ). Good s (e .o) (e .u) x) (sym (r .second)) (good-at s (q .0) (q .1))))
 
 module _ (z : Sizes) (air : Place → Bool) where
   -- the sides of a cube's corners
@@ -95,11 +99,13 @@ module _ (z : Sizes) (air : Place → Bool) where
     seven = m .seven;
   }
 
-  num-arrow : (e f : ℕ) (p : Place) (d : Arrow) → number z p (d .from) ≡ e → number z p (d .to) ≡ f → T (isArrow e f (namedArrow (number z p) d))
+  num-arrow : (e f : ℕ) (p : Place) (d : Arrow) → number z p (d .from) ≡ e
+      → number z p (d .to) ≡ f → T (isArrow e f (namedArrow (number z p) d))
   unfolding namedArrow
   num-arrow e f p d a b = arrow-is a b
 
-  known-at : {e f : ℕ} (p : Place) → CubeIn z p → (d : Arrow) → Neat d → T (isArrow e f (namedArrow (number z p) d)) → Known e f (corner p (sideOf d .o)) (sideOf d .u) (sideOf d .w)
+  known-at : {e f : ℕ} (p : Place) → CubeIn z p → (d : Arrow) → Neat d
+      → T (isArrow e f (namedArrow (number z p) d)) → Known e f (corner p (sideOf d .o)) (sideOf d .u) (sideOf d .w)
   unfolding namedArrow
   known-at {e} {f} p h d n t =
       let q = is-arrow e f (namedArrow (number z p) d) t in
@@ -158,9 +164,16 @@ module _ (z : Sizes) (air : Place → Bool) where
   unfolding hits
   found e f p h n =
       let l = arrowsIn (at p) in
-      let q = pick (λ d. isArrow e f (namedArrow (number z p) d)) l (λ y. n (ap (count (isArrow e f)) (arrows-are z air p) ∙ count-map (isArrow e f) (namedArrow (number z p)) l ∙ y)) in
+      let q = pick (λ d. isArrow e f (namedArrow (number z p) d)) l
+      (λ y. n (ap (count (isArrow e f)) (arrows-are z air p) ∙ count-map (isArrow e f) (namedArrow (number z p)) l ∙ y)) in
       let s = sideOf (q .0) in
-      record { o = s .o; u = s .u; w = s .w; known = known-at p h (q .0) (neat-at (at p) (q .0) (q .1)) (q .2); good = good-at (at p) (q .0) (q .1) }
+      record {
+        o = s .o;
+        u = s .u;
+        w = s .w;
+        known = known-at p h (q .0) (neat-at (at p) (q .0) (q .1)) (q .2);
+        good = good-at (at p) (q .0) (q .1);
+      }
 
   -- the same of an edge that is known already
   pub record Spot (m : Place) (u w : ℕ) (p : Place) : Type 0 where
@@ -172,20 +185,28 @@ module _ (z : Sizes) (air : Place → Bool) where
   spot {e} {f} {m} {u} {w} k p h n =
       let g = found e f p h n in
       let r = known-one (g .known) k in
-      record { o = g .o; there = r .place; good = subst (λ (x : ℕ). Good (at p) (g .o) x w) (r .first) (subst (λ (x : ℕ). Good (at p) (g .o) (g .u) x) (r .second) (g .good)) }
+      record {
+        o = g .o;
+        there = r .place;
+        good =
+            subst (λ (x : ℕ). Good (at p) (g .o) x w) (r .first) (subst (λ (x : ℕ). Good (at p) (g .o) (g .u) x) (r .second) (g .good));
+      }
 
   -- the cube along an axis has as its low face the other's high face
   beside : (f : ℕ) → Axis f → (p : Place) → lowRow f (at (corner p f)) ≡ highRow f (at p)
   unfolding lowRow highRow
   beside f (inl e) p =
       subst (λ (k : ℕ). lowRow k (at (corner p k)) ≡ highRow k (at p)) (sym e)
-      (λ i. rowOf (air (corner-add p 1 0 1 refl refl refl i)) (air (corner-add p 1 2 3 refl refl refl i)) (air (corner-add p 1 4 5 refl refl refl i)) (air (corner-add p 1 6 7 refl refl refl i)))
+      (λ i. rowOf (air (corner-add p 1 0 1 refl refl refl i)) (air (corner-add p 1 2 3 refl refl refl i))
+      (air (corner-add p 1 4 5 refl refl refl i)) (air (corner-add p 1 6 7 refl refl refl i)))
   beside f (inr (inl e)) p =
       subst (λ (k : ℕ). lowRow k (at (corner p k)) ≡ highRow k (at p)) (sym e)
-      (λ i. rowOf (air (corner-add p 2 0 2 refl refl refl i)) (air (corner-add p 2 1 3 refl refl refl i)) (air (corner-add p 2 4 6 refl refl refl i)) (air (corner-add p 2 5 7 refl refl refl i)))
+      (λ i. rowOf (air (corner-add p 2 0 2 refl refl refl i)) (air (corner-add p 2 1 3 refl refl refl i))
+      (air (corner-add p 2 4 6 refl refl refl i)) (air (corner-add p 2 5 7 refl refl refl i)))
   beside f (inr (inr e)) p =
       subst (λ (k : ℕ). lowRow k (at (corner p k)) ≡ highRow k (at p)) (sym e)
-      (λ i. rowOf (air (corner-add p 4 0 4 refl refl refl i)) (air (corner-add p 4 1 5 refl refl refl i)) (air (corner-add p 4 2 6 refl refl refl i)) (air (corner-add p 4 3 7 refl refl refl i)))
+      (λ i. rowOf (air (corner-add p 4 0 4 refl refl refl i)) (air (corner-add p 4 1 5 refl refl refl i))
+      (air (corner-add p 4 2 6 refl refl refl i)) (air (corner-add p 4 3 7 refl refl refl i)))
 
   -- ── an edge that is known, with an axis: it stands in a face with the low corner m ──
   module _ {e f : ℕ} {m : Place} {u w : ℕ} (k : Known e f m u w) (ax : Axis (flat u w)) where

@@ -89,7 +89,8 @@ tests l = all (λ b. b) l
 abbrev neatness : Arrow → List Bool
 neatness d =
     let s = sideOf d in
-    tests (moved (s .o) (s .u) (d .from)) ∷ tests (moved (s .o) (s .w) (d .to)) ∷ tests (shaped (s .u) (s .w)) ∷ tests (shaped (s .w) (s .u)) ∷ []
+    tests (moved (s .o) (s .u) (d .from)) ∷ tests (moved (s .o) (s .w) (d .to))
+    ∷ tests (shaped (s .u) (s .w)) ∷ tests (shaped (s .w) (s .u)) ∷ []
 
 unfoldable pub neat : Arrow → Bool
 neat d = tests (neatness d)
@@ -206,19 +207,23 @@ part a b =
     every6 λ c d e g h i. test cs x y z (pick8 a b c d e g h i)
 
 part-tt : T (part true true)
-unfolding cells cellOf faceX faceY faceZ faceSides test faced lowRow highRow good lows highs turned alike sidesIn same flat span sideOf codeTri codeAt code rowOf tets rows tetEdges kinds low joins kindOf corner mixed lowFace highFace around
+unfolding cells cellOf faceX faceY faceZ faceSides test faced lowRow highRow good lows highs turned alike sidesIn same flat
+    span sideOf codeTri codeAt code rowOf tets rows tetEdges kinds low joins kindOf corner mixed lowFace highFace around
 part-tt = tt
 
 part-tf : T (part true false)
-unfolding cells cellOf faceX faceY faceZ faceSides test faced lowRow highRow good lows highs turned alike sidesIn same flat span sideOf codeTri codeAt code rowOf tets rows tetEdges kinds low joins kindOf corner mixed lowFace highFace around
+unfolding cells cellOf faceX faceY faceZ faceSides test faced lowRow highRow good lows highs turned alike sidesIn same flat
+    span sideOf codeTri codeAt code rowOf tets rows tetEdges kinds low joins kindOf corner mixed lowFace highFace around
 part-tf = tt
 
 part-ft : T (part false true)
-unfolding cells cellOf faceX faceY faceZ faceSides test faced lowRow highRow good lows highs turned alike sidesIn same flat span sideOf codeTri codeAt code rowOf tets rows tetEdges kinds low joins kindOf corner mixed lowFace highFace around
+unfolding cells cellOf faceX faceY faceZ faceSides test faced lowRow highRow good lows highs turned alike sidesIn same flat
+    span sideOf codeTri codeAt code rowOf tets rows tetEdges kinds low joins kindOf corner mixed lowFace highFace around
 part-ft = tt
 
 part-ff : T (part false false)
-unfolding cells cellOf faceX faceY faceZ faceSides test faced lowRow highRow good lows highs turned alike sidesIn same flat span sideOf codeTri codeAt code rowOf tets rows tetEdges kinds low joins kindOf corner mixed lowFace highFace around
+unfolding cells cellOf faceX faceY faceZ faceSides test faced lowRow highRow good lows highs turned alike sidesIn same flat
+    span sideOf codeTri codeAt code rowOf tets rows tetEdges kinds low joins kindOf corner mixed lowFace highFace around
 part-ff = tt
 
 parts : (a b : Bool) → T (part a b)
@@ -252,15 +257,17 @@ sides-are s =
     ∙ map-each sideOf (λ t. each around (map (codeTri t) (at t))) tets
     ∙ sym (each-map (λ k. getD (k .rows) (rowOf (s (k .a)) (s (k .b)) (s (k .c)) (s (k .d))) []) cellOf tets ∙ go tets)
   where
-    at : Tet → List Tri
-    at t = getD rows (rowOf (s (t .a)) (s (t .b)) (s (t .c)) (s (t .d))) []
+    row : Tet → ℕ
+    row t = rowOf (s (t .a)) (s (t .b)) (s (t .c)) (s (t .d))
 
-    go : (l : List Tet)
-        → each (λ t. getD (map (λ r. map sideOf (each around (map (codeTri t) r))) rows) (rowOf (s (t .a)) (s (t .b)) (s (t .c)) (s (t .d))) []) l
+    at : Tet → List Tri
+    at t = getD rows (row t) []
+
+    go : (l : List Tet) → each (λ t. getD (map (λ r. map sideOf (each around (map (codeTri t) r))) rows) (row t) []) l
         ≡ each (λ t. map sideOf (each around (map (codeTri t) (at t)))) l
     go [] = refl
     go (t ∷ l) =
-        λ i. List·getD-map (λ r. map sideOf (each around (map (codeTri t) r))) rows (rowOf (s (t .a)) (s (t .b)) (s (t .c)) (s (t .d))) [] i ++ go l i
+        λ i. List·getD-map (λ r. map sideOf (each around (map (codeTri t) r))) rows (row t) [] i ++ go l i
 
 neat-in : (s : ℕ → Bool) → T (all neat (arrowsIn s))
 unfolding arrowsIn trisIn
@@ -271,13 +278,15 @@ neat-in s =
     at : Tet → List Tri
     at t = getD rows (rowOf (s (t .a)) (s (t .b)) (s (t .c)) (s (t .d))) []
 
-    go : (l : List Tet) → T (all (λ t. all (λ r. all neat (each around (map (codeTri t) r))) rows) l) → T (all (λ t. all neat (each around (map (codeTri t) (at t)))) l)
+    go : (l : List Tet) → T (all (λ t. all (λ r. all neat (each around (map (codeTri t) r))) rows) l)
+        → T (all (λ t. all neat (each around (map (codeTri t) (at t)))) l)
     go [] q = tt
     go (t ∷ l) q =
         let p = all (λ r. all neat (each around (map (codeTri t) r))) rows in
         let r = all (λ t. all (λ r. all neat (each around (map (codeTri t) r))) rows) l in
         and-both (all neat (each around (map (codeTri t) (at t)))) (all (λ t. all neat (each around (map (codeTri t) (at t)))) l)
-        (all-getD (λ l. T (all neat (each around (map (codeTri t) l)))) rows [] tt (all-test (λ l. all neat (each around (map (codeTri t) l))) rows (and-left p r q))
+        (all-getD (λ l. T (all neat (each around (map (codeTri t) l)))) rows [] tt
+        (all-test (λ l. all neat (each around (map (codeTri t) l))) rows (and-left p r q))
         (rowOf (s (t .a)) (s (t .b)) (s (t .c)) (s (t .d))))
         (go l (and-right p r q))
 
@@ -313,7 +322,8 @@ goods : (s : ℕ → Bool) → T (all (λ d. good s (sides s) (sideOf d)) (arrow
 unfolding test sides
 goods s =
     subst T (all-map (good s (sides s)) sideOf (arrowsIn s))
-    (subst (λ l. T (all (good s (sides s)) l)) (sym (sides-are s)) (holds (cubeTests (faceX cells) (faceY cells) (faceZ cells) s (sides s)) (by-corners s) 0))
+    (subst (λ l. T (all (good s (sides s)) l)) (sym (sides-are s))
+    (holds (cubeTests (faceX cells) (faceY cells) (faceZ cells) s (sides s)) (by-corners s) 0))
 
 is-good : (s : ℕ → Bool) (d : Arrow) → T (good s (sides s) (sideOf d)) → Good s (sideOf d .o) (sideOf d .u) (sideOf d .w)
 unfolding good sideOf
@@ -423,9 +433,15 @@ tableOf f = cond (eqb f 1) (faceX cells) (cond (eqb f 2) (faceY cells) (faceZ ce
 
 faces-at : (f : ℕ) → Axis f → (s : ℕ → Bool) → T (faced (tableOf f) f s (sides s))
 unfolding test sides
-faces-at f (inl e) s = subst (λ (k : ℕ). T (faced (tableOf k) k s (sides s))) (sym e) (holds (cubeTests (faceX cells) (faceY cells) (faceZ cells) s (sides s)) (by-corners s) 1)
-faces-at f (inr (inl e)) s = subst (λ (k : ℕ). T (faced (tableOf k) k s (sides s))) (sym e) (holds (cubeTests (faceX cells) (faceY cells) (faceZ cells) s (sides s)) (by-corners s) 2)
-faces-at f (inr (inr e)) s = subst (λ (k : ℕ). T (faced (tableOf k) k s (sides s))) (sym e) (holds (cubeTests (faceX cells) (faceY cells) (faceZ cells) s (sides s)) (by-corners s) 3)
+faces-at f (inl e) s =
+    subst (λ (k : ℕ). T (faced (tableOf k) k s (sides s))) (sym e)
+    (holds (cubeTests (faceX cells) (faceY cells) (faceZ cells) s (sides s)) (by-corners s) 1)
+faces-at f (inr (inl e)) s =
+    subst (λ (k : ℕ). T (faced (tableOf k) k s (sides s))) (sym e)
+    (holds (cubeTests (faceX cells) (faceY cells) (faceZ cells) s (sides s)) (by-corners s) 2)
+faces-at f (inr (inr e)) s =
+    subst (λ (k : ℕ). T (faced (tableOf k) k s (sides s))) (sym e)
+    (holds (cubeTests (faceX cells) (faceY cells) (faceZ cells) s (sides s)) (by-corners s) 3)
 
 bump : {a b : Bool} {m n : ℕ} → a ≡ b → m ≡ n → cond a (suc m) m ≡ cond b (suc n) n
 bump e h = λ i. cond (e i) (suc (h i)) (h i)
@@ -445,7 +461,8 @@ count-alike o u w (x ∷ xs) (y ∷ ys) t =
     let ew = eqb→eq (x .w) (y .w) (and-right a b (and-left (a && b) c h)) in
     let eo = eqb→eq (x .o) (y .o) (and-right (a && b) c h) in
     count-step (same o u w) x xs
-    ∙ bump {a = same o u w x} {b = same o u w y} (λ i. eqb u (eu i) && eqb w (ew i) && eqb o (eo i)) (count-alike o u w xs ys (and-right (a && b && c) r t))
+    ∙ bump {a = same o u w x} {b = same o u w y} (λ i. eqb u (eu i) && eqb w (ew i) && eqb o (eo i))
+    (count-alike o u w xs ys (and-right (a && b && c) r t))
     ∙ sym (count-step (same o u w) y ys)
 
 count-turned : (f u w : ℕ) (xs ys : List Side) → T (turned f xs ys) → count (same f u w) xs ≡ count (same 0 w u) ys
@@ -487,13 +504,16 @@ across f ax u w e s s′ h =
     let q = faces-at f ax s′ in
     sym (count-keep (same f u w) (λ d. eqb (d .o) f) (sides s) (λ d i t. eqb-of (sym (is-same f u w d t .offset))))
     ∙ count-turned f u w (highs f (sides s)) (getD (tableOf f) (highRow f s) [])
-    (and-right (alike (lows f (sides s)) (getD (tableOf f) (lowRow f s) [])) (turned f (highs f (sides s)) (getD (tableOf f) (highRow f s) [])) p)
+    (and-right (alike (lows f (sides s)) (getD (tableOf f) (lowRow f s) []))
+    (turned f (highs f (sides s)) (getD (tableOf f) (highRow f s) [])) p)
     ∙ ap (λ (n : ℕ). count (same 0 w u) (getD (tableOf f) n [])) (sym h)
     ∙ sym (count-alike 0 w u (lows f (sides s′)) (getD (tableOf f) (lowRow f s′) [])
-    (and-left (alike (lows f (sides s′)) (getD (tableOf f) (lowRow f s′) [])) (turned f (highs f (sides s′)) (getD (tableOf f) (highRow f s′) [])) q))
+    (and-left (alike (lows f (sides s′)) (getD (tableOf f) (lowRow f s′) []))
+    (turned f (highs f (sides s′)) (getD (tableOf f) (highRow f s′) [])) q))
     ∙ count-keep (same 0 w u) (λ d. eqb (d .o) 0 && eqb (d .f) f) (sides s′) low-one
   where
     low-one : (d : Side) → In d (sides s′) → T (same 0 w u d) → T (eqb (d .o) 0 && eqb (d .f) f)
     low-one d i t =
         let q = is-same 0 w u d t in
-        and-both (eqb (d .o) 0) (eqb (d .f) f) (eqb-of (sym (q .offset))) (eqb-of (honest s′ d i ∙ (λ j. flat (sym (q .first) j) (sym (q .second) j)) ∙ e))
+        and-both (eqb (d .o) 0) (eqb (d .f) f) (eqb-of (sym (q .offset)))
+        (eqb-of (honest s′ d i ∙ (λ j. flat (sym (q .first) j) (sym (q .second) j)) ∙ e))

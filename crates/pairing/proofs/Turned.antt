@@ -1,5 +1,5 @@
--- Triangles read from any corner: two lists of triangles, each of which has the other's up to turning and no two turned alike, have the same
--- directed edges. Assumes nothing.
+-- Triangles read from any corner: two lists of triangles, each of which has the other's up to turning and no two turned alike, have the
+-- same directed edges. Assumes nothing.
 use mathlib.Core.Path.{_≡_, refl, sym, ap, _∙_, subst}
 use mathlib.Core.Bool.{Bool, true, false, _||_}
 use mathlib.Core.List.{List, [], map, List·Memᴰ as In}
@@ -39,16 +39,21 @@ pub is-turned : (t u : Tri) → T (turned t u) → Turned t u
 unfolding turned
 is-turned t u h =
     elim (or-cases (sameTriangle t u || sameTriangle (rot t) u) (sameTriangle (rot (rot t)) u) h) [
-      | inl x ↦ elim (or-cases (sameTriangle t u) (sameTriangle (rot t) u) x) [ inl y ↦ same (same-triangle t u y) | inr y ↦ once (same-triangle (rot t) u y) ]
+      | inl x ↦ elim (or-cases (sameTriangle t u) (sameTriangle (rot t) u) x) [
+        | inl y ↦ same (same-triangle t u y)
+        | inr y ↦ once (same-triangle (rot t) u y)
+      ]
       | inr x ↦ twice (same-triangle (rot (rot t)) u x)
     ]
 
 pub turned-is : {t u : Tri} → Turned t u → T (turned t u)
 unfolding turned
 turned-is {t} {u} (same e) =
-    or-left (sameTriangle t u || sameTriangle (rot t) u) (sameTriangle (rot (rot t)) u) (or-left (sameTriangle t u) (sameTriangle (rot t) u) (triangle-same e))
+    or-left (sameTriangle t u || sameTriangle (rot t) u) (sameTriangle (rot (rot t)) u)
+    (or-left (sameTriangle t u) (sameTriangle (rot t) u) (triangle-same e))
 turned-is {t} {u} (once e) =
-    or-left (sameTriangle t u || sameTriangle (rot t) u) (sameTriangle (rot (rot t)) u) (or-right (sameTriangle t u) (sameTriangle (rot t) u) (triangle-same e))
+    or-left (sameTriangle t u || sameTriangle (rot t) u) (sameTriangle (rot (rot t)) u)
+    (or-right (sameTriangle t u) (sameTriangle (rot t) u) (triangle-same e))
 turned-is {t} {u} (twice e) = or-right (sameTriangle t u || sameTriangle (rot t) u) (sameTriangle (rot (rot t)) u) (triangle-same e)
 
 pub back : {t u : Tri} → Turned t u → Turned u t
@@ -75,7 +80,8 @@ hit-rot : (m n : ℕ) (t : Tri) → hit m n t ≡ hit m n (rot t)
 unfolding around
 hit-rot m n t = go _ _ _ (isArrow m n (arrow (t .a) (t .b))) (isArrow m n (arrow (t .b) (t .c))) (isArrow m n (arrow (t .c) (t .a)))
   where
-    go : (x y w : Arrow) (a b c : Bool) → length (consIf a x (consIf b y (consIf c w []))) ≡ length (consIf b y (consIf c w (consIf a x [])))
+    go : (x y w : Arrow) (a b c : Bool)
+        → length (consIf a x (consIf b y (consIf c w []))) ≡ length (consIf b y (consIf c w (consIf a x [])))
     go x y w true true true = refl
     go x y w true true false = refl
     go x y w true false true = refl
@@ -117,11 +123,12 @@ module _ (tri-at : ℕ → Tri) (l : List ℕ) (distinct : Unique l) (us : List 
           ∙ sym (hit-turned m n (v .2))
           ∙ (let q : hit m n (w .0) ≤ sum (hit m n) us = part-le (hit m n) (w .1) in omega arith)
         where
-          only : (u : Tri) → In u us → (hit m n u ≡ 0 → ⊥) → (c : ℕ) → In c l → Turned u (tri-at c) → sum (hit m n) us ≤ 1 → (i : ℕ) → In i l
-              → (hit m n (tri-at i) ≡ 0 → ⊥) → i ≡ c
+          only : (u : Tri) → In u us → (hit m n u ≡ 0 → ⊥) → (c : ℕ) → In c l
+              → Turned u (tri-at c) → sum (hit m n) us ≤ 1 → (i : ℕ) → In i l → (hit m n (tri-at i) ≡ 0 → ⊥) → i ≡ c
           only u a b c d t h i j p =
               let s = sound i j in
               let q : s .0 ≡ u = one-member (hit m n) h (s .1) a (λ y. p (hit-turned m n (s .2) ∙ y)) b in
               let r : Turned (tri-at i) (tri-at c) = along (subst (Turned (tri-at i)) q (s .2)) t in
-              by-order (λ i c. In i l × In c l × Turned (tri-at i) (tri-at c)) (λ i c g q. apart i c (q .0) (q .1) g (q .2)) (λ i c q. (q .1, q .0, back (q .2))) i c
+              by-order (λ i c. In i l × In c l × Turned (tri-at i) (tri-at c))
+              (λ i c g q. apart i c (q .0) (q .1) g (q .2)) (λ i c q. (q .1, q .0, back (q .2))) i c
               (j, d, r)

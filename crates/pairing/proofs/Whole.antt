@@ -19,14 +19,15 @@ use Rattle.pairing.specs.Visitable.{samePlace, shared}
 use Rattle.lists.proofs.Within.{same3, of-same3, T→false, each-each}
 use Rattle.lists.proofs.Counts.{count-each, sum, sum-one, sum-none, sum-some, Unique}
 use Rattle.pairing.proofs.Table.{same, sides, Good, flat, flat-cases, Axis, lowFace, highFace}
-use Rattle.pairing.proofs.Sides.{side-good, at, hits, Known, turn-known, Found, found, Spot, spot, hits-at, hits-before, hits-after, corner-zero, corner-inj}
+use Rattle.pairing.proofs.Sides.{side-good, at, hits, Known, turn-known, Found, found, Spot, spot}
+use Rattle.pairing.proofs.Sides.{hits-at, hits-before, hits-after, corner-zero, corner-inj}
 
 -- cubes, each once, all of which may be visited; and with a cube those that a step through a mixed face leads to, if they may be visited
 pub record Spread (air may : Place → Bool) (vs : List Place) : Type 0 where
   pub distinct : Unique vs
   pub inside : (p : Place) → In p vs → T (may p)
-  pub step : (p : Place) (f : Face) → In p vs → In f (faces p) → T (f .there) → T (mixed (map (λ c. air (corner p c)) (f .corners))) → T (may (f .beyond))
-      → In (f .beyond) vs
+  pub step : (p : Place) (f : Face) → In p vs → In f (faces p) → T (f .there)
+      → T (mixed (map (λ c. air (corner p c)) (f .corners))) → T (may (f .beyond)) → In (f .beyond) vs
 
 -- the reverse of a side is not there
 abbrev pub lone : (Place → Bool) → ℕ → Place → Bool
@@ -37,7 +38,8 @@ not-zero (inl e) q = omega arith
 not-zero (inr (inl e)) q = omega arith
 not-zero (inr (inr e)) q = omega arith
 
-lone-is : (may : Place → Bool) (f : ℕ) (m : Place) (b : Bool) → Axis f → shared may f m ≡ b → cond {A = ℕ} (lone may f m) 0 1 ≡ cond {A = ℕ} b 1 0
+lone-is : (may : Place → Bool) (f : ℕ) (m : Place) (b : Bool) → Axis f
+    → shared may f m ≡ b → cond {A = ℕ} (lone may f m) 0 1 ≡ cond {A = ℕ} b 1 0
 lone-is may f m true ax e = λ i. cond {A = ℕ} (not (T→false (eqb f 0) (λ t. not-zero ax (eqb→eq f 0 t)) i) && not (e i)) 0 1
 lone-is may f m false ax e = λ i. cond {A = ℕ} (not (T→false (eqb f 0) (λ t. not-zero ax (eqb→eq f 0 t)) i) && not (e i)) 0 1
 
@@ -92,39 +94,50 @@ module _ (may : Place → Bool) (f : ℕ) (m : Place) where
   unfolding shared
   is-shared t d c s =
       let b = off f d m c in
-      let e : d ≡ back = at-place d (m .x - f % 2) (m .y - f / 2 % 2) (m .z - f / 4) (omega (arith, b)) (omega (arith, b)) (omega (arith, b)) in
+      let e : d ≡ back =
+      at-place d (m .x - f % 2) (m .y - f / 2 % 2) (m .z - f / 4) (omega (arith, b)) (omega (arith, b)) (omega (arith, b)) in
       and-both (may m) (samePlace (corner back f) m && may back) t
-      (and-both (samePlace (corner back f) m) (may back) (place-same (ap (λ (p : Place). corner p f) (sym e) ∙ c)) (subst (λ (p : Place). T (may p)) e s))
+      (and-both (samePlace (corner back f) m) (may back)
+      (place-same (ap (λ (p : Place). corner p f) (sym e) ∙ c)) (subst (λ (p : Place). T (may p)) e s))
 
 module _ {air may : Place → Bool} {vs : List Place} (sp : Spread air may vs) where
-  enter : (p q : Place) (g : Face) → In p vs → In g (faces p) → T (g .there) → T (mixed (map (λ c. air (corner p c)) (g .corners))) → q ≡ g .beyond → T (may q)
-      → In q vs
+  enter : (p q : Place) (g : Face) → In p vs → In g (faces p) → T (g .there)
+      → T (mixed (map (λ c. air (corner p c)) (g .corners))) → q ≡ g .beyond → T (may q) → In q vs
   enter p q g i j h t e k = Memᴰ·cast e (sp .step p g i j h t (subst (λ (r : Place). T (may r)) e k))
 
   -- a step over the high face across an axis
   up : (f : ℕ) → Axis f → (p : Place) → In p vs → T (highFace f (λ c. air (corner p c))) → T (may (corner p f)) → In (corner p f) vs
   unfolding highFace faces
   up f (inl e) p i t k =
-      enter p (corner p f) _ i (there (here refl)) tt (subst (λ (n : ℕ). T (highFace n (λ c. air (corner p c)))) e t) (ap (corner p) e ∙ along 1 p (p .x + 1) (p .y) (p .z) (omega arith) (omega arith) (omega arith)) k
+      enter p (corner p f) _ i (there (here refl)) tt
+      (subst (λ (n : ℕ). T (highFace n (λ c. air (corner p c)))) e t)
+      (ap (corner p) e ∙ along 1 p (p .x + 1) (p .y) (p .z) (omega arith) (omega arith) (omega arith)) k
   up f (inr (inl e)) p i t k =
-      enter p (corner p f) _ i (there (there (there (here refl)))) tt (subst (λ (n : ℕ). T (highFace n (λ c. air (corner p c)))) e t) (ap (corner p) e ∙ along 2 p (p .x) (p .y + 1) (p .z) (omega arith) (omega arith) (omega arith)) k
+      enter p (corner p f) _ i (there (there (there (here refl)))) tt
+      (subst (λ (n : ℕ). T (highFace n (λ c. air (corner p c)))) e t)
+      (ap (corner p) e ∙ along 2 p (p .x) (p .y + 1) (p .z) (omega arith) (omega arith) (omega arith)) k
   up f (inr (inr e)) p i t k =
-      enter p (corner p f) _ i (there (there (there (there (there (here refl)))))) tt (subst (λ (n : ℕ). T (highFace n (λ c. air (corner p c)))) e t) (ap (corner p) e ∙ along 4 p (p .x) (p .y) (p .z + 1) (omega arith) (omega arith) (omega arith)) k
+      enter p (corner p f) _ i (there (there (there (there (there (here refl)))))) tt
+      (subst (λ (n : ℕ). T (highFace n (λ c. air (corner p c)))) e t)
+      (ap (corner p) e ∙ along 4 p (p .x) (p .y) (p .z + 1) (omega arith) (omega arith) (omega arith)) k
 
   -- and over the low face
   down : (f : ℕ) → Axis f → (p d : Place) → corner d f ≡ p → In p vs → T (lowFace f (λ c. air (corner p c))) → T (may d) → In d vs
   unfolding lowFace faces
   down f (inl e) p d c i t k =
       let b = off 1 d p (ap (corner d) (sym e) ∙ c) in
-      enter p d _ i (here refl) (lt→ltb 0 (p .x) (omega (arith, b))) (subst (λ (n : ℕ). T (lowFace n (λ c. air (corner p c)))) e t)
+      enter p d _ i (here refl) (lt→ltb 0 (p .x) (omega (arith, b)))
+      (subst (λ (n : ℕ). T (lowFace n (λ c. air (corner p c)))) e t)
       (at-place d (p .x - 1) (p .y) (p .z) (omega (arith, b)) (omega (arith, b)) (omega (arith, b))) k
   down f (inr (inl e)) p d c i t k =
       let b = off 2 d p (ap (corner d) (sym e) ∙ c) in
-      enter p d _ i (there (there (here refl))) (lt→ltb 0 (p .y) (omega (arith, b))) (subst (λ (n : ℕ). T (lowFace n (λ c. air (corner p c)))) e t)
+      enter p d _ i (there (there (here refl))) (lt→ltb 0 (p .y) (omega (arith, b)))
+      (subst (λ (n : ℕ). T (lowFace n (λ c. air (corner p c)))) e t)
       (at-place d (p .x) (p .y - 1) (p .z) (omega (arith, b)) (omega (arith, b)) (omega (arith, b))) k
   down f (inr (inr e)) p d c i t k =
       let b = off 4 d p (ap (corner d) (sym e) ∙ c) in
-      enter p d _ i (there (there (there (there (here refl))))) (lt→ltb 0 (p .z) (omega (arith, b))) (subst (λ (n : ℕ). T (lowFace n (λ c. air (corner p c)))) e t)
+      enter p d _ i (there (there (there (there (here refl))))) (lt→ltb 0 (p .z) (omega (arith, b)))
+      (subst (λ (n : ℕ). T (lowFace n (λ c. air (corner p c)))) e t)
       (at-place d (p .x) (p .y) (p .z - 1) (omega (arith, b)) (omega (arith, b)) (omega (arith, b))) k
 
 -- m is the low corner of a cube of the lattice, or stands across it along an axis
@@ -137,19 +150,22 @@ pub record Near (z : Sizes) (f : ℕ) (m : Place) : Type 0 where
 
 -- ── how often an edge occurs in all cubes of the list ──
 
-module _ (z : Sizes) (air may : Place → Bool) (within : (p : Place) → T (may p) → CubeIn z p) (vs : List Place) (sp : Spread air may vs) where
+module _ (z : Sizes) (air may : Place → Bool) (within : (p : Place) → T (may p) → CubeIn z p)
+    (vs : List Place) (sp : Spread air may vs) where
   abbrev pub total : ℕ → ℕ → ℕ
   total e f = sum (hits z air e f) vs
 
   pub times-are : (e f : ℕ) → times (each (trianglesAt z air) vs) e f ≡ total e f
   unfolding times hits
   times-are e f =
-      ap (count (isArrow e f)) (each-each around (trianglesAt z air) vs) ∙ count-each (isArrow e f) (λ p. each around (trianglesAt z air p)) vs
+      ap (count (isArrow e f)) (each-each around (trianglesAt z air) vs)
+      ∙ count-each (isArrow e f) (λ p. each around (trianglesAt z air p)) vs
 
   cube-in : (p : Place) → In p vs → CubeIn z p
   cube-in p i = within p (sp .inside p i)
 
-  spot-at : {e f : ℕ} {m : Place} {u w : ℕ} → Known z air e f m u w → (p : Place) → In p vs → (hits z air e f p ≡ 0 → ⊥) → Spot z air m u w p
+  spot-at : {e f : ℕ} {m : Place} {u w : ℕ} → Known z air e f m u w
+      → (p : Place) → In p vs → (hits z air e f p ≡ 0 → ⊥) → Spot z air m u w p
   spot-at k p i n = spot z air k p (cube-in p i) n
 
   -- a side that occurs, and how often it and its reverse do
@@ -255,7 +271,11 @@ module _ (z : Sizes) (air may : Place → Bool) (within : (p : Place) → T (may
         only′ p j n = elim (stands′ p j n) [ inl c ↦ absurd (n (after′ p j c ∙ no-back)) | inr c ↦ c ]
 
         mixes : T (lowFace (flat u w) (at z air m))
-        mixes = elim (or-cases (eqb (flat u w) 0) (lowFace (flat u w) (at z air m)) (g .face)) [ inl t ↦ absurd (not-zero ax (eqb→eq (flat u w) 0 t)) | inr t ↦ t ]
+        mixes =
+            elim (or-cases (eqb (flat u w) 0) (lowFace (flat u w) (at z air m)) (g .face)) [
+              | inl t ↦ absurd (not-zero ax (eqb→eq (flat u w) 0 t))
+              | inr t ↦ t
+            ]
 
         go : (b : Bool) → shared may (flat u w) m ≡ b → total f e ≡ cond (lone may (flat u w) m) 0 1
         go true q =
@@ -286,7 +306,9 @@ module _ (z : Sizes) (air may : Place → Bool) (within : (p : Place) → T (may
         one-back = sym (prior d i c) ∙ hits-at z air k d (cube-in d i) (flat u w) c ∙ g .once
 
         none-here : here-count ≡ 0
-        none-here = side-good (at z air m) 0 w u (λ y. omega (arith, one-back, y)) .turn ∙ ap (λ (n : ℕ). cond {A = ℕ} (eqb n 0) 1 0) turn ∙ not-axis
+        none-here =
+            side-good (at z air m) 0 w u (λ y. omega (arith, one-back, y)) .turn
+            ∙ ap (λ (n : ℕ). cond {A = ℕ} (eqb n 0) 1 0) turn ∙ not-axis
 
         only : (p : Place) → In p vs → (hits z air e f p ≡ 0 → ⊥) → p ≡ d
         only p j n = elim (stands p j n) [ inl q ↦ absurd (n (after p j q ∙ none-here)) | inr q ↦ corner-inj (flat u w) p d (q ∙ sym c) ]
@@ -296,10 +318,11 @@ module _ (z : Sizes) (air may : Place → Bool) (within : (p : Place) → T (may
 
         mixes : T (highFace (flat u w) (at z air d))
         mixes =
-            elim (or-cases (eqb (flat u w) 0) (cond (eqb (flat u w) 0) (lowFace (flat u w) (at z air d)) (highFace (flat u w) (at z air d))) (g .face)) [
+            let low = lowFace (flat u w) (at z air d) in
+            let high = highFace (flat u w) (at z air d) in
+            elim (or-cases (eqb (flat u w) 0) (cond (eqb (flat u w) 0) low high) (g .face)) [
               | inl t ↦ absurd (not-zero ax (eqb→eq (flat u w) 0 t))
-              | inr t ↦ subst (λ (b : Bool). T (cond b (lowFace (flat u w) (at z air d)) (highFace (flat u w) (at z air d))))
-                  (T→false (eqb (flat u w) 0) (λ y. not-zero ax (eqb→eq (flat u w) 0 y))) t
+              | inr t ↦ subst (λ (b : Bool). T (cond b low high)) (T→false (eqb (flat u w) 0) (λ y. not-zero ax (eqb→eq (flat u w) 0 y))) t
             ]
 
         go : (b : Bool) → may m ≡ b → total f e ≡ cond (lone may (flat u w) m) 0 1
@@ -308,7 +331,8 @@ module _ (z : Sizes) (air may : Place → Bool) (within : (p : Place) → T (may
             sum-one (hits z air f e) (sp .distinct) m j only′
             ∙ after′ m j refl
             ∙ one-back
-            ∙ sym (lone-is may (flat u w) m true ax (T→eq (shared may (flat u w) m) (is-shared may (flat u w) m (eq→T q) d c (sp .inside d i))))
+            ∙ sym (lone-is may (flat u w) m true ax
+            (T→eq (shared may (flat u w) m) (is-shared may (flat u w) m (eq→T q) d c (sp .inside d i))))
         go false q =
             sum-none (hits z air f e) vs (λ p l n. subst T (ap may (only′ p l n) ∙ q) (sp .inside p l))
             ∙ sym (lone-is may (flat u w) m false ax (T→false (shared may (flat u w) m) (λ t. subst T q (shared-after may (flat u w) m t))))

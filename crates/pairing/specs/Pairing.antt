@@ -10,9 +10,12 @@ use Rattle.lists.specs.Lists.{range, count, all, each, isIn}
 use Rattle.lists.specs.Reach.{grow, rounds, reached}
 use Rattle.paper.specs.declared.Sizes.{Sizes}
 use Rattle.paper.specs.declared.Place.{Place}
-use Rattle.paper.specs.Lattice.{Lattice, lattice, place, air, sampleNo, sampleAt, valueAt, airAt, fill, isFill, fillAt, cubes, cubeNo, cubeAt, RBN, LTN, LBF, RTF, corner, mixed, mixedAt, inLattice, free, visitable, faces, stepOver, steps, Visited, visited}
+use Rattle.paper.specs.Lattice.{Lattice, lattice, place, air, sampleNo, sampleAt, valueAt, airAt, fill, isFill}
+use Rattle.paper.specs.Lattice.{fillAt, cubes, cubeNo, cubeAt, RBN, LTN, LBF, RTF, corner, mixed, mixedAt}
+use Rattle.paper.specs.Lattice.{inLattice, free, visitable, faces, stepOver, steps, Visited, visited}
 use Rattle.paper.specs.Tables.{Tri, tri, tets, rows, tetEdges, kinds, low, joins, kindOf}
-use Rattle.paper.specs.Sheet.{edgeNo, anchorOf, endsOf, firstEnd, secondEnd, cubeEdges, rowOf, rowAt, tetEdge, triEdges, trianglesAt, cubeTriangles}
+use Rattle.paper.specs.Sheet.{edgeNo, anchorOf, endsOf, firstEnd, secondEnd, cubeEdges}
+use Rattle.paper.specs.Sheet.{rowOf, rowAt, tetEdge, triEdges, trianglesAt, cubeTriangles}
 use Rattle.paper.specs.File.{fileV, fileT, fileVertices, fileTriangles}
 use Rattle.paper.specs.Check.{edgeOf}
 use Rattle.pairing.specs.Visitable.{edgeEnds, inOuterFace, outer, meet, samePlace, shared, inUnshared, unshared}
@@ -52,7 +55,8 @@ pub record Carried (L : Lattice) (start e : ℕ) : Type 0 where
   pub visited : Visited L start cube
   pub side-changing : T (isIn (cubeEdges L cube) e)
 
--- "Each side-changing tetrahedron edge of a visited cube carries exactly one vertex", and each vertex is carried so: es are the vertices' edges
+-- "Each side-changing tetrahedron edge of a visited cube carries exactly one vertex", and each vertex is carried so: es are the
+-- vertices' edges
 pub record OneVertex (L : Lattice) (start : ℕ) (es : List ℕ) : Type 0 where
   pub one : (e : ℕ) → Carried L start e → count (eqb e) es ≡ 1
   pub only : (e : ℕ) → T (isIn es e) → Carried L start e
@@ -103,7 +107,8 @@ worked-visitable :
     pairUp (unshared z (λ p. samePlace p c || samePlace p (corner c b)))
     (each (trianglesAt z (samePlace (corner c RTF))) (c ∷ corner c b ∷ []))) (RBN ∷ LTN ∷ LBF ∷ [])
     ≡ (true ∷ true ∷ true ∷ [])
-unfolding times around isArrow edgeEnds anchorOf endsOf firstEnd secondEnd rowAt trianglesAt meet samePlace shared inUnshared unshared sampleNo sampleAt corner tets rows tetEdges kinds low joins kindOf edgeNo rowOf tetEdge triEdges
+unfolding times around isArrow edgeEnds anchorOf endsOf firstEnd secondEnd rowAt trianglesAt meet samePlace shared
+    inUnshared unshared sampleNo sampleAt corner tets rows tetEdges kinds low joins kindOf edgeNo rowOf tetEdge triEdges
 worked-visitable = refl
 
 -- 3×3×3, only (1, 1, 1) air: from (1, 0, 0) with the fill at (0, 0, 0), and from (0, 0, 0) with none. By `apart` both pair up, and by the
@@ -117,5 +122,8 @@ worked-fill :
     let sheet : List Tri = each (cubeTriangles whole) (visited whole 0) in
     (pairUp (apart ring) filled ∷ pairUp (outer z) filled ∷ pairUp (apart whole) sheet ∷ pairUp (outer z) sheet ∷ [])
     ≡ (true ∷ false ∷ true ∷ true ∷ [])
-unfolding times around isArrow edgeEnds inOuterFace outer meet samePlace shared inUnshared unshared anchorOf endsOf firstEnd secondEnd rowAt trianglesAt cubeTriangles grow rounds reached air sampleNo sampleAt valueAt airAt isFill fillAt cubes cubeNo cubeAt corner mixed mixedAt inLattice free visitable faces stepOver steps visited tets rows tetEdges kinds low joins kindOf edgeNo rowOf tetEdge triEdges
+unfolding times around isArrow edgeEnds inOuterFace outer meet samePlace shared inUnshared unshared
+    anchorOf endsOf firstEnd secondEnd rowAt trianglesAt cubeTriangles grow rounds reached air sampleNo sampleAt
+    valueAt airAt isFill fillAt cubes cubeNo cubeAt corner mixed mixedAt inLattice free visitable faces
+    stepOver steps visited tets rows tetEdges kinds low joins kindOf edgeNo rowOf tetEdge triEdges
 worked-fill = refl

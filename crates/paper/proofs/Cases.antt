@@ -18,13 +18,20 @@ use Rattle.paper.specs.declared.Built.{Built}
 use Rattle.paper.specs.declared.Verdict.{Verdict}
 use Rattle.paper.specs.declared.Wrote.{Wrote}
 use Rattle.paper.specs.declared.Got.{Got}
-use Rattle.paper.specs.Lattice.{Lattice, lattice, place, axis, axes, samples, air, sampleNo, sampleAt, valueAt, airAt, cubes, cubeNo, cubeAt, corner, mixed, mixedAt, fill, isFill, fillAt, inLattice, free, visitable, crossed, faces, stepOver, steps, visited, lowest, inner, inside, mayStart}
+use Rattle.paper.specs.Lattice.{Lattice, lattice, place, axis, axes, samples, air, sampleNo, sampleAt, valueAt, airAt}
+use Rattle.paper.specs.Lattice.{cubes, cubeNo, cubeAt, corner, mixed, mixedAt, fill, isFill, fillAt, inLattice, free}
+use Rattle.paper.specs.Lattice.{visitable, crossed, faces, stepOver, steps, visited, lowest, inner, inside, mayStart}
 use Rattle.paper.specs.Tables.{tets, rows, tetEdges, kinds, low, joins, kindOf}
-use Rattle.paper.specs.Sheet.{Sheet, edgeNo, anchorOf, endsOf, firstEnd, secondEnd, split, cubeEdges, vertexEdges, rounded, crossing, coordinate, recordAt, vertexRecord, weight, rowOf, rowAt, tetEdge, triEdges, trianglesAt, cubeTriangles, numbered, sheetBy, sheetOf, vertexWords, triangleWords}
+use Rattle.paper.specs.Sheet.{Sheet, edgeNo, anchorOf, endsOf, firstEnd, secondEnd, split, cubeEdges, vertexEdges}
+use Rattle.paper.specs.Sheet.{rounded, crossing, coordinate, recordAt, vertexRecord, weight, rowOf, rowAt, tetEdge, triEdges}
+use Rattle.paper.specs.Sheet.{trianglesAt, cubeTriangles, numbered, sheetBy, sheetOf, vertexWords, triangleWords}
 use Rattle.paper.specs.Room.{Work, work, Lengths, lengths, roomy, roomTests, frontAfter, outputAfter}
 use Rattle.paper.specs.Build.{Lent, lent, startOf, shapeTests, startTests, sampleTests, buildNumber, built, lentAfter}
-use Rattle.paper.specs.File.{Content, contentOf, bits32, signed32, fileLength, trailerBytes, fileBytes, badTriangle, firstBad, limits, writeVerdict, wrote, trailer, fileV, fileT, fileSizes, fileVertices, fileTriangles, laidOut, fileTests, readVerdict, got, bytesAfter, verticesAfter, trianglesAfter}
-use Rattle.paper.specs.Check.{sameSizes, sameTriangle, turned, recordOf, edgeOf, badRecord, cornerOf, triangleOf, badNaming, complete, sheetTests, checked, checkedAfter}
+use Rattle.paper.specs.File.{Content, contentOf, bits32, signed32, fileLength, trailerBytes, fileBytes, badTriangle}
+use Rattle.paper.specs.File.{firstBad, limits, writeVerdict, wrote, trailer, fileV, fileT, fileSizes, fileVertices}
+use Rattle.paper.specs.File.{fileTriangles, laidOut, fileTests, readVerdict, got, bytesAfter, verticesAfter, trianglesAfter}
+use Rattle.paper.specs.Check.{sameSizes, sameTriangle, turned, recordOf, edgeOf, badRecord, cornerOf}
+use Rattle.paper.specs.Check.{triangleOf, badNaming, complete, sheetTests, checked, checkedAfter}
 
 pub data Case : Type 0 where
   -- the number and the counts of a build, with room for so many vertices and triangles
@@ -135,7 +142,14 @@ fourth : ℕ → ℕ
 fourth n = n / 4
 
 unfoldable pub outcome : Case → List ℕ
-unfolding third fourth grow rounds reached axis axes samples air sampleNo sampleAt valueAt airAt cubes cubeNo cubeAt corner mixed mixedAt isFill fillAt inLattice free visitable crossed faces stepOver steps visited lowest inner inside mayStart tets rows tetEdges kinds low joins kindOf edgeNo anchorOf endsOf firstEnd secondEnd split cubeEdges vertexEdges rounded crossing coordinate recordAt vertexRecord rowOf rowAt tetEdge triEdges trianglesAt cubeTriangles numbered sheetBy sheetOf vertexWords triangleWords xor roomy shapeTests startTests sampleTests roomTests buildNumber built frontAfter outputAfter lentAfter field bits32 signed fileLength trailerBytes fileBytes badTriangle firstBad limits writeVerdict wrote trailer fileV fileT fileSizes fileVertices fileTriangles laidOut fileTests readVerdict got sameSizes sameTriangle turned recordOf edgeOf badRecord cornerOf triangleOf badNaming complete sheetTests checked checkedAfter
+unfolding third fourth grow rounds reached axis axes samples air sampleNo sampleAt valueAt airAt cubes cubeNo cubeAt corner
+    mixed mixedAt isFill fillAt inLattice free visitable crossed faces stepOver steps visited lowest inner inside mayStart
+    tets rows tetEdges kinds low joins kindOf edgeNo anchorOf endsOf firstEnd secondEnd split cubeEdges vertexEdges rounded
+    crossing coordinate recordAt vertexRecord rowOf rowAt tetEdge triEdges trianglesAt cubeTriangles numbered sheetBy sheetOf
+    vertexWords triangleWords xor roomy shapeTests startTests sampleTests roomTests buildNumber built frontAfter outputAfter
+    lentAfter field bits32 signed fileLength trailerBytes fileBytes badTriangle firstBad limits writeVerdict wrote trailer
+    fileV fileT fileSizes fileVertices fileTriangles laidOut fileTests readVerdict got sameSizes sameTriangle turned
+    recordOf edgeOf badRecord cornerOf triangleOf badNaming complete sheetTests checked checkedAfter
 outcome (builds nv nt L s) = answer (built L s (room nv nt))
 outcome (startsAt L s) = startOf L s ∷ []
 outcome (lists rule L s) = listed (sheetOf rule L (startOf L s))

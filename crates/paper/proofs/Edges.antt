@@ -14,7 +14,8 @@ use Rattle.paper.specs.declared.Place.{Place}
 use Rattle.paper.specs.declared.Rule.{Rule}
 use Rattle.paper.specs.Lattice.{Lattice, place, samples, sampleNo, sampleAt, airAt, corner, cubes, cubeAt}
 use Rattle.paper.specs.Tables.{Ends, Tet, Tri, ends, kinds, low, kindOf}
-use Rattle.paper.specs.Sheet.{edgeNumbers, edgeNo, anchorOf, kindIn, endsOf, firstEnd, secondEnd, split, cubeEdges, recordAt, vertexRecord, tetEdge, triEdges, cubeTriangles}
+use Rattle.paper.specs.Sheet.{edgeNumbers, edgeNo, anchorOf, kindIn, endsOf, firstEnd, secondEnd, split}
+use Rattle.paper.specs.Sheet.{cubeEdges, recordAt, vertexRecord, tetEdge, triEdges, cubeTriangles}
 use Rattle.paper.specs.Within.{Sized, SampleIn, CubeIn, cubeOf}
 use Rattle.paper.proofs.Numbers.{sample-lt, sample-place, cube-inside, corner-inside}
 use Rattle.paper.proofs.Tables.{edgeOf, stands, inCube, kindHas, kinds-found, kind-lt, reachesLow, reaching, on-cube, on-cube-edges}
@@ -74,11 +75,12 @@ edge-ends z p hp e h =
     let s = stands (low e) in
     let t = s (k .a) (e .a) && s (k .b) (e .b) || s (k .b) (e .a) && s (k .a) (e .b) in
     let he = in-cube e h in
-    let at : (c d : ℕ) → endsOf (kindIn (edgeNo z p e)) ≡ k → T (s c d) → corner (anchorOf z (edgeNo z p e)) c ≡ corner p d =
+    let n = edgeNo z p e in
+    let at : (c d : ℕ) → endsOf (kindIn n) ≡ k → T (s c d) → corner (anchorOf z n) c ≡ corner p d =
     λ c d q h. ap (λ (w : Place). corner w c) (edge-anchor z p hp e he) ∙ stand-corner p (low e) c d h in
-    let q : endsOf (kindIn (edgeNo z p e)) ≡ k = ap (λ (m : ℕ). getD kinds m (ends 0 0)) (edge-kind z p hp e he) in
-    let one : (f : Ends → ℕ) (d : ℕ) → T (s (f k) d) → corner (anchorOf z (edgeNo z p e)) (f (endsOf (kindIn (edgeNo z p e)))) ≡ corner p d =
-    λ f d h. ap (λ (w : Ends). corner (anchorOf z (edgeNo z p e)) (f w)) q ∙ at (f k) d q h in
+    let q : endsOf (kindIn n) ≡ k = ap (λ (m : ℕ). getD kinds m (ends 0 0)) (edge-kind z p hp e he) in
+    let one : (f : Ends → ℕ) (d : ℕ) → T (s (f k) d) → corner (anchorOf z n) (f (endsOf (kindIn n))) ≡ corner p d =
+    λ f d h. ap (λ (w : Ends). corner (anchorOf z n) (f w)) q ∙ at (f k) d q h in
     elim (or-cases (s (k .a) (e .a) && s (k .b) (e .b)) (s (k .b) (e .a) && s (k .a) (e .b)) (and-right (inCube e) t h)) [
       | inl h ↦ inl (record {
         first = one (λ w. w .a) (e .a) (and-left (s (k .a) (e .a)) (s (k .b) (e .b)) h);
@@ -133,7 +135,8 @@ standing-at L n u v false false j hu hv eu ev x = absurd x
 module _ (L : Lattice) (s : Sized (L .size)) (k : ℕ) (h : k < cubes (L .size)) where
   -- what holds of the number of any two samples on different sides holds of each of a cube's side-changing edges
   pub cube-edges-join : (P : ℕ → Type 0)
-      → ((n : ℕ) (u v : Place) → Joined (L .size) n u v → SampleIn (L .size) u → SampleIn (L .size) v → T (xor (airAt L u) (airAt L v)) → P n)
+      → ((n : ℕ) (u v : Place) → Joined (L .size) n u v → SampleIn (L .size) u → SampleIn (L .size) v
+      → T (xor (airAt L u) (airAt L v)) → P n)
       → All P (cubeEdges L k)
   unfolding split
   cube-edges-join P f = on-cube-edges kindHas kinds-found P L k each-edge
@@ -187,7 +190,10 @@ triangle-cube z p hp t n r h =
     let gx = least (p .x) (low a % 2) (low b % 2) (low c % 2) (eqb→eq mx 0 (m .0)) in
     let gy = least (p .y) (low a / 2 % 2) (low b / 2 % 2) (low c / 2 % 2) (eqb→eq my 0 (m .1)) in
     let gz = least (p .z) (low a / 4) (low b / 4) (low c / 4) (eqb→eq mz 0 (m .2)) in
-    (λ j. place (min (min (ea j .x) (eb j .x)) (ec j .x)) (min (min (ea j .y) (eb j .y)) (ec j .y)) (min (min (ea j .z) (eb j .z)) (ec j .z)))
+    (λ j. place
+    (min (min (ea j .x) (eb j .x)) (ec j .x))
+    (min (min (ea j .y) (eb j .y)) (ec j .y))
+    (min (min (ea j .z) (eb j .z)) (ec j .z)))
     ∙ (λ j. place (gx j) (gy j) (gz j))
 
 -- so each triangle of a cube of the lattice gives its cube

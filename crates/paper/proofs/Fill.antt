@@ -15,7 +15,8 @@ use Rattle.paper.specs.declared.Place.{Place}
 use Rattle.paper.specs.declared.Start.the-variants.{Cube}
 use Rattle.paper.specs.declared.Verdict.{Verdict}
 use Rattle.paper.specs.declared.Rule.{Rule}
-use Rattle.paper.specs.Lattice.{Lattice, valueAt, fill, isFill, fillAt, noFill, sampleNo, cubes, cubeNo, cubeAt, corner, mixedAt, inLattice, free, visitable, crossed, visited}
+use Rattle.paper.specs.Lattice.{Lattice, valueAt, fill, isFill, fillAt, noFill, sampleNo, cubes, cubeNo}
+use Rattle.paper.specs.Lattice.{cubeAt, corner, mixedAt, inLattice, free, visitable, crossed, visited}
 use Rattle.paper.specs.Within.{CubeIn}
 use Rattle.paper.specs.Sheet.{sheetOf}
 use Rattle.paper.specs.Tests.{test, verdict, judge}

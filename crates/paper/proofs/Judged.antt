@@ -23,7 +23,8 @@ Numbered [] = Unit {0}
 Numbered (t ∷ ts) = (0 < t .otherwise .number) × Numbered ts
 
 -- the first test is passed, and so are the others
-judge-first : (t : Test) (ts : List Test) → 0 < t .otherwise .number → judge (t ∷ ts) .number ≡ 0 → (t .passed ≡ true) × (judge ts .number ≡ 0)
+judge-first : (t : Test) (ts : List Test) → 0 < t .otherwise .number
+    → judge (t ∷ ts) .number ≡ 0 → (t .passed ≡ true) × (judge ts .number ≡ 0)
 judge-first t ts h = go (t .passed)
   where
     go : (b : Bool) → cond b (judge ts) (t .otherwise) .number ≡ 0 → (b ≡ true) × (judge ts .number ≡ 0)
@@ -81,11 +82,13 @@ pub judge-none : (l : List Test) → Numbered l → judge l .number ≡ 0 → ju
 judge-none l h e = passed-judge l (judge-all l h e)
 
 -- what holds of each test's number, and of 0, holds of the answer's
-pub judge-among : (P : ℕ → Type 0) (l : List Test) → All (λ t. P (t .otherwise .number)) l → (judge l .number ≡ 0 → P 0) → P (judge l .number)
+pub judge-among : (P : ℕ → Type 0) (l : List Test) → All (λ t. P (t .otherwise .number)) l
+    → (judge l .number ≡ 0 → P 0) → P (judge l .number)
 judge-among P [] h z = z refl
 judge-among P (t ∷ l) h z = go (t .passed) z (λ q. judge-among P l (h .1) q)
   where
-    go : (b : Bool) → (cond b (judge l) (t .otherwise) .number ≡ 0 → P 0) → ((judge l .number ≡ 0 → P 0) → P (judge l .number)) → P (cond b (judge l) (t .otherwise) .number)
+    go : (b : Bool) → (cond b (judge l) (t .otherwise) .number ≡ 0 → P 0)
+        → ((judge l .number ≡ 0 → P 0) → P (judge l .number)) → P (cond b (judge l) (t .otherwise) .number)
     go true q r = r q
     go false q r = h .0
 

@@ -17,7 +17,8 @@ pub over-limit-write : (z : Sizes) (nv nt : ℕ) (vs : List ℤ) (ts : List ℕ)
 unfolding writeVerdict
 over-limit-write z nv nt vs ts room a l =
     let e : (leb nv (vertexRoom vs) && leb nt (triangleRoom ts) && limits nv nt) ≡ false =
-    ap (λ (b : Bool). leb nv (vertexRoom vs) && leb nt (triangleRoom ts) && b) l ∙ and-false (leb nv (vertexRoom vs) && leb nt (triangleRoom ts)) in
+    ap (λ (b : Bool). leb nv (vertexRoom vs) && leb nt (triangleRoom ts) && b) l
+    ∙ and-false (leb nv (vertexRoom vs) && leb nt (triangleRoom ts)) in
     rw (a, e)
 
 pub over-limit-file : (bs : List ℕ) → limits (fileV bs) (fileT bs) ≡ false → laidOut bs ≡ false

@@ -19,7 +19,9 @@ use Rattle.paper.specs.declared.Place.{Place}
 use Rattle.paper.specs.declared.Rule.{Rule}
 use Rattle.paper.specs.Lattice.{Lattice, airAt, corner, cubes, cubeAt, visited}
 use Rattle.paper.specs.Tables.{Tet, Tri, ends, tri, tets, rows, tetEdges}
-use Rattle.paper.specs.Sheet.{Cut, Sheet, tetrahedra, edgeNumbers, edgeNo, firstEnd, secondEnd, split, cubeEdges, vertexEdges, recordAt, vertexRecord, rowAt, tetEdge, triEdges, trianglesAt, cubeTriangles, numbered, sheetBy, sheetOf, vertexWords, corners3, triangleWords}
+use Rattle.paper.specs.Sheet.{Cut, Sheet, tetrahedra, edgeNumbers, edgeNo, firstEnd, secondEnd, split, cubeEdges}
+use Rattle.paper.specs.Sheet.{vertexEdges, recordAt, vertexRecord, rowAt, tetEdge, triEdges, trianglesAt}
+use Rattle.paper.specs.Sheet.{cubeTriangles, numbered, sheetBy, sheetOf, vertexWords, corners3, triangleWords}
 use Rattle.paper.specs.Within.{Sized, Below}
 use Rattle.paper.proofs.Visits.{visited-lt}
 use Rattle.paper.proofs.Tables.{differ, differs, row-differs}
@@ -78,7 +80,8 @@ module _ (C : Cut) (L : Lattice) where
         let n = edgeNumbers (L .size) in
         in-keep (isIn M) (range 0 n) e
         ∙ bool-same (isIn (range 0 n) e && isIn M e) (isIn M e) (and-right (isIn (range 0 n) e) (isIn M e))
-        (λ t. and-both (isIn (range 0 n) e) (isIn M e) (in-range 0 n e (omega arith) (omega (arith, all-in (λ e. e < n) M marked-lt e t))) t)
+        (λ t. and-both (isIn (range 0 n) e) (isIn M e)
+        (in-range 0 n e (omega arith) (omega (arith, all-in (λ e. e < n) M marked-lt e t))) t)
 
     -- and such an edge stands between a solid and an air sample of the lattice
     pub edges-stand : All (Standing L) (vertexEdges C L ks)
@@ -95,7 +98,8 @@ module _ (C : Cut) (L : Lattice) where
         all-weak (Among M) (Among (vertexEdges C L ks))
         (among-weak M (vertexEdges C L ks) (λ e t. subst T (sym (edges-exactly e)) t)) (each (C .triangles L) ks)
         (each-sub (Among M) M (C .triangles L) (C .edges L)
-        (λ k f. all-weak (Among (C .edges L k)) (Among M) (among-weak (C .edges L k) M f) (C .triangles L k) (sound .among L k)) ks (λ e h. h))
+        (λ k f. all-weak (Among (C .edges L k)) (Among M) (among-weak (C .edges L k) M f) (C .triangles L k) (sound .among L k))
+        ks (λ e h. h))
 
 pub visits-lt : (L : Lattice) (start : ℕ) → All (λ k. k < cubes (L .size)) (visited L start)
 visits-lt L start = in-all (λ k. k < cubes (L .size)) (visited L start) (visited-lt L start)

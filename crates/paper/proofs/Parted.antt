@@ -7,7 +7,8 @@ use lib.Dec.{T, eqb, ltb→lt}
 use Rattle.lists.specs.Lists.{count}
 use Rattle.lists.specs.Reach.{grow, rounds, reached}
 use Rattle.paper.specs.declared.Rule.{Rule}
-use Rattle.paper.specs.Lattice.{Lattice, samples, air, sampleNo, sampleAt, valueAt, airAt, isFill, fillAt, cubes, cubeNo, cubeAt, corner, mixed, mixedAt, inLattice, free, visitable, crossed, faces, stepOver, steps, Visited, visited}
+use Rattle.paper.specs.Lattice.{Lattice, samples, air, sampleNo, sampleAt, valueAt, airAt, isFill, fillAt, cubes, cubeNo, cubeAt}
+use Rattle.paper.specs.Lattice.{corner, mixed, mixedAt, inLattice, free, visitable, crossed, faces, stepOver, steps, Visited, visited}
 use Rattle.paper.specs.Tables.{tets, tetEdges, kinds, low, joins, kindOf}
 use Rattle.paper.specs.Sheet.{edgeNo, split, cubeEdges, vertexEdges, sheetBy, sheetOf}
 use Rattle.paper.proofs.Visits.{visited-exactly}
@@ -23,7 +24,9 @@ pub record Sharing (rule : Rule) (L : Lattice) (j k e : ℕ) : Type 0 where
 
 -- from (1, 0, 0) and from (0, 1, 0), on the edge along z from (1, 1, 0)
 pub sharing : (rule : Rule) → Sharing rule parted 1 2 30
-unfolding grow rounds reached samples air sampleNo sampleAt valueAt airAt isFill fillAt cubes cubeNo cubeAt corner mixed mixedAt inLattice free visitable crossed faces stepOver steps visited tets tetEdges kinds low joins kindOf edgeNo split cubeEdges vertexEdges sheetBy sheetOf xor
+unfolding grow rounds reached samples air sampleNo sampleAt valueAt airAt isFill fillAt cubes
+    cubeNo cubeAt corner mixed mixedAt inLattice free visitable crossed faces stepOver steps visited tets
+    tetEdges kinds low joins kindOf edgeNo split cubeEdges vertexEdges sheetBy sheetOf xor
 sharing rule = record {
   first = tt;
   second = tt;

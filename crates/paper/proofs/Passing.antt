@@ -18,8 +18,10 @@ use Rattle.paper.specs.Lattice.{Lattice, cubes, crossed, mayStart}
 use Rattle.paper.specs.Sheet.{Sheet, vertexRecord, sheetOf}
 use Rattle.paper.specs.Within.{Sized}
 use Rattle.paper.specs.Tests.{Test, verdict, judge}
-use Rattle.paper.specs.Room.{Work, work, Lengths, lengths, needed, neededSlots, vertexRoom, triangleRoom, roomTests, clears, frontAfter, clean, workAfter}
-use Rattle.paper.specs.Build.{Lent, startOf, sheetFrom, named, starts, shapeTests, startTests, sampleTests, buildNumber, counts, counted, uncounted, built}
+use Rattle.paper.specs.Room.{Work, work, Lengths, lengths, needed, neededSlots, vertexRoom}
+use Rattle.paper.specs.Room.{triangleRoom, roomTests, clears, frontAfter, clean, workAfter}
+use Rattle.paper.specs.Build.{Lent, startOf, sheetFrom, named, starts, shapeTests, startTests}
+use Rattle.paper.specs.Build.{sampleTests, buildNumber, counts, counted, uncounted, built}
 use Rattle.paper.specs.File.{badTriangle, fileV, fileT, fileTriangles, fileTests}
 use Rattle.paper.specs.Check.{sheetTests, checked}
 use Rattle.paper.proofs.Tested.{indices-passed, Compared, compared}
@@ -140,7 +142,8 @@ module _ (L : Lattice) (s : Start) (l : Lent) where
   built-zero e = built-at 0 true (sym built-number ∙ e) refl
 
   -- a sheet that is built has room
-  pub built-fits : built L s l .number ≡ 0 → (length (S .edges) ≤ vertexRoom (l .vertices)) × (length (S .triangles) ≤ triangleRoom (l .triangles))
+  pub built-fits : built L s l .number ≡ 0
+      → (length (S .edges) ≤ vertexRoom (l .vertices)) × (length (S .triangles) ≤ triangleRoom (l .triangles))
   unfolding buildNumber
   built-fits e =
       let f = length (S .edges) in
@@ -181,7 +184,10 @@ module _ (number : ℕ) where
 
   pub work-cleared : (z : Sizes) (w : Work) → clears number ≡ true → workAfter number z w ≡ clean z w
   work-cleared z w e =
-      λ k. work (front-cleared e (needed z) (w .words) k) (front-cleared e (needed z) (w .waiting) k) (front-cleared e (neededSlots z) (w .slots) k)
+      λ k. work
+      (front-cleared e (needed z) (w .words) k)
+      (front-cleared e (needed z) (w .waiting) k)
+      (front-cleared e (neededSlots z) (w .slots) k)
 
 -- ── 11 to 19 ──
 

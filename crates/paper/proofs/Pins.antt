@@ -2,12 +2,23 @@
 -- with one theorem, by computation. Assumes nothing.
 use mathlib.Core.Path.{_≡_, refl}
 use mathlib.Core.List.{List, [], _∷_, _++_, map}
+use Prim.Native.Nat.{ℕ}
 use lib.IntN.{pos, negsuc}
 use lib.ListN.{set, replicate, take, drop}
+use Rattle.paper.specs.declared.Sizes.{Sizes}
 use Rattle.paper.specs.declared.Start.the-variants.{Unnamed, Lowest}
 use Rattle.paper.specs.declared.Rule.the-variants.{Down, Nearest}
 use Rattle.paper.specs.File.{contentOf}
-use Rattle.paper.proofs.Cases.{Case, builds, startsAt, lists, files, checks, checksFile, checksBytes, checksFrom, checksUnder, crosses, checkLeaves, checkFileLeaves, leaves, clears, limited, writes, writeLeaves, bytes, reads, readsFile, readLeaves, signs, rereads, Row, row-of, outcome, sizes, lat, at, works, numbers, o, a, first-air, rtn-air, middle-air, two-air, zero-solid, steep, far-air, five-air, split-air, uneven, one-air, tray, corner-fill, parted, filled, full, clear-front, used, three-records, small-record, small-file}
+use Rattle.paper.proofs.Cases.{Case, builds, startsAt, lists, files, checks, checksFile, checksBytes, checksFrom}
+use Rattle.paper.proofs.Cases.{checksUnder, crosses, checkLeaves, checkFileLeaves, leaves, clears, limited, writes}
+use Rattle.paper.proofs.Cases.{writeLeaves, bytes, reads, readsFile, readLeaves, signs, rereads, Row, row-of, outcome}
+use Rattle.paper.proofs.Cases.{sizes, lat, at, works, numbers, o, a, first-air, rtn-air, middle-air, two-air}
+use Rattle.paper.proofs.Cases.{zero-solid, steep, far-air, five-air, split-air, uneven, one-air, tray, corner-fill}
+use Rattle.paper.proofs.Cases.{parted, filled, full, clear-front, used, three-records, small-record, small-file}
+
+-- the check, for first-air, of a file of these sizes with these vertices, none below 0, and triangles
+abbrev checksFirst : Sizes → List ℕ → List ℕ → Case
+checksFirst z vs ts = checksFile first-air z (map pos vs) ts
 
 table : List Row
 table =
@@ -16,22 +27,46 @@ table =
     ∷ row-of (checks first-air (1 ∷ 2 ∷ 0 ∷ 1 ∷ 2 ∷ 0 ∷ [])) (18 ∷ 1 ∷ [])
     ∷ row-of (checks first-air []) (19 ∷ 0 ∷ [])
     -- every row and kind; 0 beside 1; a crossing that is no whole number of units; three axes that differ
-    ∷ row-of (lists Nearest rtn-air Lowest) (6 ∷ 32768 ∷ 32768 ∷ 32768 ∷ 8 ∷ 65536 ∷ 32768 ∷ 0 ∷ 10 ∷ 65536 ∷ 32768 ∷ 32768 ∷ 14 ∷ 32768 ∷ 65536 ∷ 0 ∷ 18 ∷ 32768 ∷ 65536 ∷ 32768 ∷ 23 ∷ 65536 ∷ 65536 ∷ 32768 ∷ 3 ∷ 1 ∷ 0 ∷ 3 ∷ 0 ∷ 4 ∷ 1 ∷ 2 ∷ 0 ∷ 0 ∷ 2 ∷ 4 ∷ 4 ∷ 2 ∷ 5 ∷ [])
-    ∷ row-of (lists Nearest zero-solid Lowest) (0 ∷ 0 ∷ 0 ∷ 0 ∷ 4 ∷ 0 ∷ 0 ∷ 65536 ∷ 5 ∷ 0 ∷ 65536 ∷ 0 ∷ 8 ∷ 65536 ∷ 65536 ∷ 0 ∷ 9 ∷ 65536 ∷ 0 ∷ 65536 ∷ 0 ∷ 1 ∷ 2 ∷ 2 ∷ 1 ∷ 3 ∷ 3 ∷ 1 ∷ 4 ∷ [])
+    ∷ row-of (lists Nearest rtn-air Lowest)
+    (6 ∷ 32768 ∷ 32768 ∷ 32768 ∷ 8 ∷ 65536 ∷ 32768 ∷ 0 ∷ 10 ∷ 65536 ∷ 32768 ∷ 32768
+    ∷ 14 ∷ 32768 ∷ 65536 ∷ 0 ∷ 18 ∷ 32768 ∷ 65536 ∷ 32768 ∷ 23 ∷ 65536 ∷ 65536 ∷ 32768
+    ∷ 3 ∷ 1 ∷ 0 ∷ 3 ∷ 0 ∷ 4 ∷ 1 ∷ 2 ∷ 0 ∷ 0 ∷ 2 ∷ 4 ∷ 4 ∷ 2 ∷ 5 ∷ [])
+    ∷ row-of (lists Nearest zero-solid Lowest)
+    (0 ∷ 0 ∷ 0 ∷ 0 ∷ 4 ∷ 0 ∷ 0 ∷ 65536 ∷ 5 ∷ 0 ∷ 65536 ∷ 0 ∷ 8 ∷ 65536 ∷ 65536 ∷ 0 ∷ 9 ∷ 65536 ∷ 0 ∷ 65536
+    ∷ 0 ∷ 1 ∷ 2 ∷ 2 ∷ 1 ∷ 3 ∷ 3 ∷ 1 ∷ 4 ∷ [])
     ∷ row-of (lists Nearest steep Lowest) (0 ∷ 21845 ∷ 0 ∷ 0 ∷ 1 ∷ 0 ∷ 21845 ∷ 0 ∷ 2 ∷ 0 ∷ 0 ∷ 21845 ∷ 1 ∷ 2 ∷ 0 ∷ [])
-    ∷ row-of (lists Nearest far-air Lowest) (9 ∷ 65536 ∷ 0 ∷ 32768 ∷ 10 ∷ 65536 ∷ 32768 ∷ 32768 ∷ 23 ∷ 65536 ∷ 65536 ∷ 32768 ∷ 28 ∷ 32768 ∷ 0 ∷ 65536 ∷ 33 ∷ 32768 ∷ 32768 ∷ 65536 ∷ 42 ∷ 32768 ∷ 65536 ∷ 65536 ∷ 0 ∷ 3 ∷ 1 ∷ 3 ∷ 4 ∷ 1 ∷ 1 ∷ 4 ∷ 5 ∷ 1 ∷ 5 ∷ 2 ∷ [])
-    ∷ row-of (lists Nearest five-air Lowest) (0 ∷ 32768 ∷ 0 ∷ 0 ∷ 4 ∷ 32768 ∷ 0 ∷ 32768 ∷ 5 ∷ 32768 ∷ 32768 ∷ 0 ∷ 6 ∷ 32768 ∷ 32768 ∷ 32768 ∷ 9 ∷ 65536 ∷ 0 ∷ 32768 ∷ 10 ∷ 65536 ∷ 32768 ∷ 32768 ∷ 14 ∷ 32768 ∷ 65536 ∷ 0 ∷ 18 ∷ 32768 ∷ 65536 ∷ 32768 ∷ 36 ∷ 65536 ∷ 32768 ∷ 65536 ∷ 42 ∷ 32768 ∷ 65536 ∷ 65536 ∷ 1 ∷ 0 ∷ 2 ∷ 6 ∷ 3 ∷ 1 ∷ 6 ∷ 1 ∷ 2 ∷ 6 ∷ 7 ∷ 3 ∷ 5 ∷ 4 ∷ 1 ∷ 5 ∷ 1 ∷ 3 ∷ 3 ∷ 7 ∷ 5 ∷ 5 ∷ 7 ∷ 9 ∷ 5 ∷ 9 ∷ 8 ∷ [])
-    ∷ row-of (lists Nearest split-air Lowest) (1 ∷ 0 ∷ 32768 ∷ 0 ∷ 3 ∷ 0 ∷ 32768 ∷ 32768 ∷ 5 ∷ 32768 ∷ 32768 ∷ 0 ∷ 9 ∷ 65536 ∷ 0 ∷ 32768 ∷ 10 ∷ 65536 ∷ 32768 ∷ 32768 ∷ 14 ∷ 32768 ∷ 65536 ∷ 0 ∷ 18 ∷ 32768 ∷ 65536 ∷ 32768 ∷ 28 ∷ 32768 ∷ 0 ∷ 65536 ∷ 29 ∷ 0 ∷ 32768 ∷ 65536 ∷ 36 ∷ 65536 ∷ 32768 ∷ 65536 ∷ 42 ∷ 32768 ∷ 65536 ∷ 65536 ∷ 0 ∷ 1 ∷ 2 ∷ 5 ∷ 2 ∷ 1 ∷ 5 ∷ 1 ∷ 8 ∷ 5 ∷ 8 ∷ 6 ∷ 3 ∷ 4 ∷ 7 ∷ 4 ∷ 6 ∷ 8 ∷ 4 ∷ 8 ∷ 7 ∷ 6 ∷ 4 ∷ 9 ∷ 6 ∷ 9 ∷ 10 ∷ [])
-    ∷ row-of (lists Nearest uneven Lowest) (7 ∷ 98304 ∷ 0 ∷ 0 ∷ 11 ∷ 98304 ∷ 0 ∷ 32768 ∷ 12 ∷ 98304 ∷ 32768 ∷ 0 ∷ 15 ∷ 131072 ∷ 32768 ∷ 0 ∷ 16 ∷ 131072 ∷ 0 ∷ 32768 ∷ 0 ∷ 1 ∷ 2 ∷ 2 ∷ 1 ∷ 3 ∷ 3 ∷ 1 ∷ 4 ∷ [])
-    ∷ row-of (lists Nearest uneven (at 0 2 1)) (65 ∷ 0 ∷ 196608 ∷ 32768 ∷ 67 ∷ 32768 ∷ 196608 ∷ 32768 ∷ 127 ∷ 0 ∷ 163840 ∷ 65536 ∷ 129 ∷ 0 ∷ 163840 ∷ 98304 ∷ 131 ∷ 32768 ∷ 163840 ∷ 65536 ∷ 147 ∷ 16384 ∷ 196608 ∷ 65536 ∷ 149 ∷ 0 ∷ 196608 ∷ 98304 ∷ 1 ∷ 2 ∷ 0 ∷ 1 ∷ 4 ∷ 2 ∷ 1 ∷ 5 ∷ 4 ∷ 2 ∷ 4 ∷ 3 ∷ 5 ∷ 3 ∷ 4 ∷ 5 ∷ 6 ∷ 3 ∷ [])
-    ∷ row-of (lists Nearest uneven (at 1 2 1)) (163 ∷ 131072 ∷ 196608 ∷ 98304 ∷ 225 ∷ 131072 ∷ 163840 ∷ 131072 ∷ 238 ∷ 98304 ∷ 196608 ∷ 131072 ∷ 0 ∷ 1 ∷ 2 ∷ [])
+    ∷ row-of (lists Nearest far-air Lowest)
+    (9 ∷ 65536 ∷ 0 ∷ 32768 ∷ 10 ∷ 65536 ∷ 32768 ∷ 32768 ∷ 23 ∷ 65536 ∷ 65536 ∷ 32768
+    ∷ 28 ∷ 32768 ∷ 0 ∷ 65536 ∷ 33 ∷ 32768 ∷ 32768 ∷ 65536 ∷ 42 ∷ 32768 ∷ 65536 ∷ 65536
+    ∷ 0 ∷ 3 ∷ 1 ∷ 3 ∷ 4 ∷ 1 ∷ 1 ∷ 4 ∷ 5 ∷ 1 ∷ 5 ∷ 2 ∷ [])
+    ∷ row-of (lists Nearest five-air Lowest)
+    (0 ∷ 32768 ∷ 0 ∷ 0 ∷ 4 ∷ 32768 ∷ 0 ∷ 32768 ∷ 5 ∷ 32768 ∷ 32768 ∷ 0 ∷ 6 ∷ 32768 ∷ 32768 ∷ 32768
+    ∷ 9 ∷ 65536 ∷ 0 ∷ 32768 ∷ 10 ∷ 65536 ∷ 32768 ∷ 32768 ∷ 14 ∷ 32768 ∷ 65536 ∷ 0
+    ∷ 18 ∷ 32768 ∷ 65536 ∷ 32768 ∷ 36 ∷ 65536 ∷ 32768 ∷ 65536 ∷ 42 ∷ 32768 ∷ 65536 ∷ 65536
+    ∷ 1 ∷ 0 ∷ 2 ∷ 6 ∷ 3 ∷ 1 ∷ 6 ∷ 1 ∷ 2 ∷ 6 ∷ 7 ∷ 3 ∷ 5 ∷ 4 ∷ 1 ∷ 5 ∷ 1 ∷ 3 ∷ 3 ∷ 7 ∷ 5 ∷ 5 ∷ 7 ∷ 9 ∷ 5 ∷ 9 ∷ 8 ∷ [])
+    ∷ row-of (lists Nearest split-air Lowest)
+    (1 ∷ 0 ∷ 32768 ∷ 0 ∷ 3 ∷ 0 ∷ 32768 ∷ 32768 ∷ 5 ∷ 32768 ∷ 32768 ∷ 0 ∷ 9 ∷ 65536 ∷ 0 ∷ 32768
+    ∷ 10 ∷ 65536 ∷ 32768 ∷ 32768 ∷ 14 ∷ 32768 ∷ 65536 ∷ 0 ∷ 18 ∷ 32768 ∷ 65536 ∷ 32768 ∷ 28 ∷ 32768 ∷ 0 ∷ 65536
+    ∷ 29 ∷ 0 ∷ 32768 ∷ 65536 ∷ 36 ∷ 65536 ∷ 32768 ∷ 65536 ∷ 42 ∷ 32768 ∷ 65536 ∷ 65536
+    ∷ 0 ∷ 1 ∷ 2 ∷ 5 ∷ 2 ∷ 1 ∷ 5 ∷ 1 ∷ 8 ∷ 5 ∷ 8 ∷ 6 ∷ 3 ∷ 4 ∷ 7 ∷ 4 ∷ 6 ∷ 8 ∷ 4 ∷ 8 ∷ 7 ∷ 6 ∷ 4 ∷ 9 ∷ 6 ∷ 9 ∷ 10 ∷ [])
+    ∷ row-of (lists Nearest uneven Lowest)
+    (7 ∷ 98304 ∷ 0 ∷ 0 ∷ 11 ∷ 98304 ∷ 0 ∷ 32768 ∷ 12 ∷ 98304 ∷ 32768 ∷ 0
+    ∷ 15 ∷ 131072 ∷ 32768 ∷ 0 ∷ 16 ∷ 131072 ∷ 0 ∷ 32768
+    ∷ 0 ∷ 1 ∷ 2 ∷ 2 ∷ 1 ∷ 3 ∷ 3 ∷ 1 ∷ 4 ∷ [])
+    ∷ row-of (lists Nearest uneven (at 0 2 1))
+    (65 ∷ 0 ∷ 196608 ∷ 32768 ∷ 67 ∷ 32768 ∷ 196608 ∷ 32768 ∷ 127 ∷ 0 ∷ 163840 ∷ 65536 ∷ 129 ∷ 0 ∷ 163840 ∷ 98304
+    ∷ 131 ∷ 32768 ∷ 163840 ∷ 65536 ∷ 147 ∷ 16384 ∷ 196608 ∷ 65536 ∷ 149 ∷ 0 ∷ 196608 ∷ 98304
+    ∷ 1 ∷ 2 ∷ 0 ∷ 1 ∷ 4 ∷ 2 ∷ 1 ∷ 5 ∷ 4 ∷ 2 ∷ 4 ∷ 3 ∷ 5 ∷ 3 ∷ 4 ∷ 5 ∷ 6 ∷ 3 ∷ [])
+    ∷ row-of (lists Nearest uneven (at 1 2 1))
+    (163 ∷ 131072 ∷ 196608 ∷ 98304 ∷ 225 ∷ 131072 ∷ 163840 ∷ 131072 ∷ 238 ∷ 98304 ∷ 196608 ∷ 131072 ∷ 0 ∷ 1 ∷ 2 ∷ [])
     -- document 02 (vi): the same under document 01's rule, and each rule's file under both
     ∷ row-of (lists Down steep Lowest) (0 ∷ 21846 ∷ 0 ∷ 0 ∷ 1 ∷ 0 ∷ 21846 ∷ 0 ∷ 2 ∷ 0 ∷ 0 ∷ 21846 ∷ 1 ∷ 2 ∷ 0 ∷ [])
     ∷ row-of (checksUnder Down Down steep) (0 ∷ 0 ∷ [])
     ∷ row-of (checksUnder Nearest Nearest steep) (0 ∷ 0 ∷ [])
     ∷ row-of (checksUnder Nearest Down steep) (17 ∷ 0 ∷ [])
     ∷ row-of (checksUnder Down Nearest steep) (17 ∷ 0 ∷ [])
-    ∷ row-of (leaves steep Lowest (used 12 3 1 1 56)) (0 ∷ 0 ∷ 21845 ∷ 0 ∷ 0 ∷ 1 ∷ 0 ∷ 21845 ∷ 0 ∷ 2 ∷ 0 ∷ 0 ∷ 21845 ∷ 1 ∷ 2 ∷ 0 ∷ replicate 58 0)
+    ∷ row-of (leaves steep Lowest (used 12 3 1 1 56))
+    (0 ∷ 0 ∷ 21845 ∷ 0 ∷ 0 ∷ 1 ∷ 0 ∷ 21845 ∷ 0 ∷ 2 ∷ 0 ∷ 0 ∷ 21845 ∷ 1 ∷ 2 ∷ 0 ∷ replicate 58 0)
     -- t under nearest, where it differs from document 01's and where it does not
     ∷ row-of (crosses Nearest (pos 0) (pos 1)) (0 ∷ [])
     ∷ row-of (crosses Nearest (negsuc 1) (pos 1)) (43691 ∷ [])
@@ -57,8 +92,14 @@ table =
     ∷ row-of (builds 100 100 corner-fill Lowest) (0 ∷ 14 ∷ 23 ∷ 7 ∷ [])
     ∷ row-of (builds 100 100 parted (at 1 0 0)) (0 ∷ 5 ∷ 3 ∷ 1 ∷ [])
     ∷ row-of (builds 100 100 parted (at 0 1 0)) (0 ∷ 5 ∷ 3 ∷ 1 ∷ [])
-    ∷ row-of (lists Nearest parted (at 1 0 0)) (8 ∷ 65536 ∷ 32768 ∷ 0 ∷ 10 ∷ 65536 ∷ 32768 ∷ 32768 ∷ 12 ∷ 98304 ∷ 32768 ∷ 0 ∷ 28 ∷ 98304 ∷ 65536 ∷ 0 ∷ 30 ∷ 65536 ∷ 65536 ∷ 32768 ∷ 0 ∷ 2 ∷ 1 ∷ 3 ∷ 1 ∷ 2 ∷ 3 ∷ 4 ∷ 1 ∷ [])
-    ∷ row-of (lists Nearest parted (at 0 1 0)) (21 ∷ 32768 ∷ 65536 ∷ 0 ∷ 25 ∷ 32768 ∷ 65536 ∷ 32768 ∷ 26 ∷ 32768 ∷ 98304 ∷ 0 ∷ 29 ∷ 65536 ∷ 98304 ∷ 0 ∷ 30 ∷ 65536 ∷ 65536 ∷ 32768 ∷ 0 ∷ 1 ∷ 2 ∷ 2 ∷ 1 ∷ 3 ∷ 3 ∷ 1 ∷ 4 ∷ [])
+    ∷ row-of (lists Nearest parted (at 1 0 0))
+    (8 ∷ 65536 ∷ 32768 ∷ 0 ∷ 10 ∷ 65536 ∷ 32768 ∷ 32768 ∷ 12 ∷ 98304 ∷ 32768 ∷ 0
+    ∷ 28 ∷ 98304 ∷ 65536 ∷ 0 ∷ 30 ∷ 65536 ∷ 65536 ∷ 32768
+    ∷ 0 ∷ 2 ∷ 1 ∷ 3 ∷ 1 ∷ 2 ∷ 3 ∷ 4 ∷ 1 ∷ [])
+    ∷ row-of (lists Nearest parted (at 0 1 0))
+    (21 ∷ 32768 ∷ 65536 ∷ 0 ∷ 25 ∷ 32768 ∷ 65536 ∷ 32768 ∷ 26 ∷ 32768 ∷ 98304 ∷ 0
+    ∷ 29 ∷ 65536 ∷ 98304 ∷ 0 ∷ 30 ∷ 65536 ∷ 65536 ∷ 32768
+    ∷ 0 ∷ 1 ∷ 2 ∷ 2 ∷ 1 ∷ 3 ∷ 3 ∷ 1 ∷ 4 ∷ [])
     -- the fill at each corner of a cube; −32767 is none
     ∷ row-of (builds 9 9 (filled 0 7) Lowest) (5 ∷ 0 ∷ 0 ∷ 0 ∷ [])
     ∷ row-of (builds 9 9 (filled 1 7) Lowest) (5 ∷ 0 ∷ 0 ∷ 0 ∷ [])
@@ -104,7 +145,8 @@ table =
     ∷ row-of (builds 9 9 (lat 2 2 2 (replicate 7 a)) Lowest) (2 ∷ 0 ∷ 0 ∷ 0 ∷ [])
     ∷ row-of (builds 9 9 (lat 2 2 2 (replicate 9 a)) Lowest) (2 ∷ 0 ∷ 0 ∷ 0 ∷ [])
     -- what is left in the lent slices, 2 before 3 and 3 before 4
-    ∷ row-of (leaves first-air Lowest (used 13 4 2 2 57)) (0 ∷ 0 ∷ 49152 ∷ 0 ∷ 0 ∷ 1 ∷ 0 ∷ 49152 ∷ 0 ∷ 2 ∷ 0 ∷ 0 ∷ 49152 ∷ 9 ∷ 1 ∷ 2 ∷ 0 ∷ 8 ∷ 0 ∷ 5 ∷ 0 ∷ 6 ∷ replicate 56 0 ++ 7 ∷ [])
+    ∷ row-of (leaves first-air Lowest (used 13 4 2 2 57))
+    (0 ∷ 0 ∷ 49152 ∷ 0 ∷ 0 ∷ 1 ∷ 0 ∷ 49152 ∷ 0 ∷ 2 ∷ 0 ∷ 0 ∷ 49152 ∷ 9 ∷ 1 ∷ 2 ∷ 0 ∷ 8 ∷ 0 ∷ 5 ∷ 0 ∷ 6 ∷ replicate 56 0 ++ 7 ∷ [])
     ∷ row-of (leaves first-air Lowest (used 11 4 2 2 57)) (6 ∷ replicate 11 9 ++ replicate 4 8 ++ 0 ∷ 5 ∷ 0 ∷ 6 ∷ replicate 56 0 ++ 7 ∷ [])
     ∷ row-of (leaves first-air Lowest (used 12 2 2 2 57)) (7 ∷ replicate 12 9 ++ replicate 2 8 ++ 0 ∷ 5 ∷ 0 ∷ 6 ∷ replicate 56 0 ++ 7 ∷ [])
     ∷ row-of (leaves (lat 2 2 2 (replicate 7 a)) Lowest (used 12 3 0 0 0)) (2 ∷ numbers (used 12 3 0 0 0))
@@ -126,7 +168,10 @@ table =
     ∷ row-of (limited 2000001 4000000) (0 ∷ [])
     ∷ row-of (limited 2000000 4000001) (0 ∷ [])
     -- bytes, and reading
-    ∷ row-of (bytes (contentOf (sizes 2 3 64) 1 1 (negsuc 1 ∷ pos 258 ∷ pos 0 ∷ negsuc 2147483647 ∷ []) (0 ∷ 4294967295 ∷ 65536 ∷ []))) (254 ∷ 255 ∷ 255 ∷ 255 ∷ 2 ∷ 1 ∷ 0 ∷ 0 ∷ 0 ∷ 0 ∷ 0 ∷ 0 ∷ 0 ∷ 0 ∷ 0 ∷ 128 ∷ 0 ∷ 0 ∷ 0 ∷ 0 ∷ 255 ∷ 255 ∷ 255 ∷ 255 ∷ 0 ∷ 0 ∷ 1 ∷ 0 ∷ 28 ∷ 0 ∷ 0 ∷ 0 ∷ 1 ∷ 0 ∷ 0 ∷ 0 ∷ 12 ∷ 0 ∷ 0 ∷ 0 ∷ 1 ∷ 0 ∷ 0 ∷ 0 ∷ 2 ∷ 0 ∷ 3 ∷ 0 ∷ 64 ∷ 0 ∷ 83 ∷ 83 ∷ [])
+    ∷ row-of (bytes (contentOf (sizes 2 3 64) 1 1 small-record (0 ∷ 4294967295 ∷ 65536 ∷ [])))
+    (254 ∷ 255 ∷ 255 ∷ 255 ∷ 2 ∷ 1 ∷ 0 ∷ 0 ∷ 0 ∷ 0 ∷ 0 ∷ 0 ∷ 0 ∷ 0 ∷ 0 ∷ 128
+    ∷ 0 ∷ 0 ∷ 0 ∷ 0 ∷ 255 ∷ 255 ∷ 255 ∷ 255 ∷ 0 ∷ 0 ∷ 1 ∷ 0
+    ∷ 28 ∷ 0 ∷ 0 ∷ 0 ∷ 1 ∷ 0 ∷ 0 ∷ 0 ∷ 12 ∷ 0 ∷ 0 ∷ 0 ∷ 1 ∷ 0 ∷ 0 ∷ 0 ∷ 2 ∷ 0 ∷ 3 ∷ 0 ∷ 64 ∷ 0 ∷ 83 ∷ 83 ∷ [])
     ∷ row-of (rereads first-air) (0 ∷ 49152 ∷ 0 ∷ 0 ∷ 1 ∷ 0 ∷ 49152 ∷ 0 ∷ 2 ∷ 0 ∷ 0 ∷ 49152 ∷ 1 ∷ 2 ∷ 0 ∷ [])
     ∷ row-of (reads small-file (replicate 4 (pos 0)) (replicate 3 0)) (0 ∷ 0 ∷ 1 ∷ 1 ∷ 2 ∷ 3 ∷ 64 ∷ [])
     ∷ row-of (reads small-file (replicate 3 (pos 0)) (replicate 3 0)) (6 ∷ 0 ∷ 0 ∷ 0 ∷ 0 ∷ 0 ∷ 0 ∷ [])
@@ -138,21 +183,22 @@ table =
     ∷ row-of (reads (set small-file 28 29) (replicate 4 (pos 0)) (replicate 3 0)) (14 ∷ 0 ∷ 0 ∷ 0 ∷ 0 ∷ 0 ∷ 0 ∷ [])
     ∷ row-of (reads (set small-file 36 13) (replicate 4 (pos 0)) (replicate 3 0)) (14 ∷ 0 ∷ 0 ∷ 0 ∷ 0 ∷ 0 ∷ 0 ∷ [])
     ∷ row-of (reads (drop 1 (set small-file 48 65)) (replicate 4 (pos 0)) (replicate 3 0)) (1 ∷ 0 ∷ 0 ∷ 0 ∷ 0 ∷ 0 ∷ 0 ∷ [])
-    ∷ row-of (readsFile (contentOf (sizes 2 3 64) 1 2 (replicate 4 (pos 7)) (0 ∷ 0 ∷ 0 ∷ 0 ∷ 1 ∷ 0 ∷ [])) 0 0) (15 ∷ 1 ∷ 0 ∷ 0 ∷ 0 ∷ 0 ∷ 0 ∷ [])
+    ∷ row-of (readsFile (contentOf (sizes 2 3 64) 1 2 (replicate 4 (pos 7)) (0 ∷ 0 ∷ 0 ∷ 0 ∷ 1 ∷ 0 ∷ [])) 0 0)
+    (15 ∷ 1 ∷ 0 ∷ 0 ∷ 0 ∷ 0 ∷ 0 ∷ [])
     ∷ row-of (signs 2147483647) (4294967294 ∷ [])
     ∷ row-of (signs 2147483648) (4294967295 ∷ [])
     ∷ row-of (signs 4294967295) (1 ∷ [])
     -- checking: records in another order; sizes, positions, edges and indices that are wrong
-    ∷ row-of (checksFile first-air (sizes 2 2 2) (pos 2 ∷ pos 0 ∷ pos 0 ∷ pos 49152 ∷ pos 0 ∷ pos 49152 ∷ pos 0 ∷ pos 0 ∷ pos 1 ∷ pos 0 ∷ pos 49152 ∷ pos 0 ∷ []) (1 ∷ 2 ∷ 0 ∷ [])) (0 ∷ 0 ∷ [])
-    ∷ row-of (checksFile first-air (sizes 2 2 2) (pos 1 ∷ pos 0 ∷ pos 49152 ∷ pos 0 ∷ pos 0 ∷ pos 49152 ∷ pos 0 ∷ pos 0 ∷ pos 2 ∷ pos 0 ∷ pos 0 ∷ pos 49152 ∷ []) (0 ∷ 2 ∷ 1 ∷ [])) (0 ∷ 0 ∷ [])
-    ∷ row-of (checksFile first-air (sizes 2 2 2) (pos 1 ∷ pos 0 ∷ pos 49152 ∷ pos 0 ∷ pos 0 ∷ pos 49152 ∷ pos 0 ∷ pos 0 ∷ pos 2 ∷ pos 0 ∷ pos 0 ∷ pos 49152 ∷ []) (1 ∷ 2 ∷ 0 ∷ [])) (18 ∷ 0 ∷ [])
+    ∷ row-of (checksFirst (sizes 2 2 2) (2 ∷ 0 ∷ 0 ∷ 49152 ∷ 0 ∷ 49152 ∷ 0 ∷ 0 ∷ 1 ∷ 0 ∷ 49152 ∷ 0 ∷ []) (1 ∷ 2 ∷ 0 ∷ [])) (0 ∷ 0 ∷ [])
+    ∷ row-of (checksFirst (sizes 2 2 2) (1 ∷ 0 ∷ 49152 ∷ 0 ∷ 0 ∷ 49152 ∷ 0 ∷ 0 ∷ 2 ∷ 0 ∷ 0 ∷ 49152 ∷ []) (0 ∷ 2 ∷ 1 ∷ [])) (0 ∷ 0 ∷ [])
+    ∷ row-of (checksFirst (sizes 2 2 2) (1 ∷ 0 ∷ 49152 ∷ 0 ∷ 0 ∷ 49152 ∷ 0 ∷ 0 ∷ 2 ∷ 0 ∷ 0 ∷ 49152 ∷ []) (1 ∷ 2 ∷ 0 ∷ [])) (18 ∷ 0 ∷ [])
     ∷ row-of (checks rtn-air (0 ∷ 4 ∷ 3 ∷ 1 ∷ 2 ∷ 0 ∷ 0 ∷ 2 ∷ 4 ∷ 4 ∷ 2 ∷ 5 ∷ 3 ∷ 1 ∷ 0 ∷ [])) (0 ∷ 0 ∷ [])
-    ∷ row-of (checksFile first-air (sizes 2 2 3) (pos 2 ∷ pos 0 ∷ pos 0 ∷ pos 49152 ∷ pos 0 ∷ pos 49152 ∷ pos 0 ∷ pos 0 ∷ pos 1 ∷ pos 0 ∷ pos 49152 ∷ pos 0 ∷ []) (1 ∷ 2 ∷ 0 ∷ [])) (16 ∷ 0 ∷ [])
-    ∷ row-of (checksFile first-air (sizes 2 2 2) (pos 0 ∷ pos 49152 ∷ pos 0 ∷ pos 0 ∷ pos 1 ∷ pos 0 ∷ pos 49152 ∷ pos 0 ∷ pos 2 ∷ pos 0 ∷ pos 0 ∷ pos 49153 ∷ []) (1 ∷ 2 ∷ 0 ∷ [])) (17 ∷ 2 ∷ [])
-    ∷ row-of (checksFile first-air (sizes 2 2 2) (pos 0 ∷ pos 49152 ∷ pos 0 ∷ pos 0 ∷ pos 1 ∷ pos 0 ∷ pos 49152 ∷ pos 0 ∷ pos 1 ∷ pos 0 ∷ pos 49152 ∷ pos 0 ∷ []) (1 ∷ 2 ∷ 0 ∷ [])) (17 ∷ 2 ∷ [])
-    ∷ row-of (checksFile first-air (sizes 2 2 2) (pos 0 ∷ pos 49152 ∷ pos 0 ∷ pos 0 ∷ pos 1 ∷ pos 0 ∷ pos 49152 ∷ pos 0 ∷ pos 3 ∷ pos 0 ∷ pos 0 ∷ pos 49152 ∷ []) (1 ∷ 2 ∷ 0 ∷ [])) (17 ∷ 2 ∷ [])
-    ∷ row-of (checksFile first-air (sizes 2 2 2) (pos 0 ∷ pos 49152 ∷ pos 0 ∷ pos 0 ∷ pos 1 ∷ pos 0 ∷ pos 49152 ∷ pos 0 ∷ []) []) (19 ∷ 0 ∷ [])
-    ∷ row-of (checksFile first-air (sizes 2 2 2) (pos 0 ∷ pos 49152 ∷ pos 0 ∷ pos 0 ∷ pos 1 ∷ pos 0 ∷ pos 49152 ∷ pos 0 ∷ []) (0 ∷ 1 ∷ 2 ∷ [])) (15 ∷ 0 ∷ [])
+    ∷ row-of (checksFirst (sizes 2 2 3) (2 ∷ 0 ∷ 0 ∷ 49152 ∷ 0 ∷ 49152 ∷ 0 ∷ 0 ∷ 1 ∷ 0 ∷ 49152 ∷ 0 ∷ []) (1 ∷ 2 ∷ 0 ∷ [])) (16 ∷ 0 ∷ [])
+    ∷ row-of (checksFirst (sizes 2 2 2) (0 ∷ 49152 ∷ 0 ∷ 0 ∷ 1 ∷ 0 ∷ 49152 ∷ 0 ∷ 2 ∷ 0 ∷ 0 ∷ 49153 ∷ []) (1 ∷ 2 ∷ 0 ∷ [])) (17 ∷ 2 ∷ [])
+    ∷ row-of (checksFirst (sizes 2 2 2) (0 ∷ 49152 ∷ 0 ∷ 0 ∷ 1 ∷ 0 ∷ 49152 ∷ 0 ∷ 1 ∷ 0 ∷ 49152 ∷ 0 ∷ []) (1 ∷ 2 ∷ 0 ∷ [])) (17 ∷ 2 ∷ [])
+    ∷ row-of (checksFirst (sizes 2 2 2) (0 ∷ 49152 ∷ 0 ∷ 0 ∷ 1 ∷ 0 ∷ 49152 ∷ 0 ∷ 3 ∷ 0 ∷ 0 ∷ 49152 ∷ []) (1 ∷ 2 ∷ 0 ∷ [])) (17 ∷ 2 ∷ [])
+    ∷ row-of (checksFirst (sizes 2 2 2) (0 ∷ 49152 ∷ 0 ∷ 0 ∷ 1 ∷ 0 ∷ 49152 ∷ 0 ∷ []) []) (19 ∷ 0 ∷ [])
+    ∷ row-of (checksFirst (sizes 2 2 2) (0 ∷ 49152 ∷ 0 ∷ 0 ∷ 1 ∷ 0 ∷ 49152 ∷ 0 ∷ []) (0 ∷ 1 ∷ 2 ∷ [])) (15 ∷ 0 ∷ [])
     -- the order of its tests
     ∷ row-of (checksBytes (lat 2 2 2 (replicate 8 o)) []) (5 ∷ 0 ∷ [])
     ∷ row-of (checksBytes first-air (drop 29 small-file)) (11 ∷ 0 ∷ [])
@@ -160,7 +206,12 @@ table =
     ∷ row-of (checksBytes first-air (drop 1 small-file)) (14 ∷ 0 ∷ [])
     ∷ row-of (checksBytes first-air small-file) (16 ∷ 0 ∷ [])
     -- what these leave open, and single changes of the definitions that only these rows refuse
-    ∷ row-of (lists Nearest (lat 2 3 3 (replicate 8 o ++ a ∷ replicate 9 o)) Lowest) (16 ∷ 0 ∷ 65536 ∷ 32768 ∷ 17 ∷ 0 ∷ 98304 ∷ 32768 ∷ 18 ∷ 32768 ∷ 65536 ∷ 32768 ∷ 20 ∷ 32768 ∷ 98304 ∷ 32768 ∷ 43 ∷ 0 ∷ 32768 ∷ 65536 ∷ 45 ∷ 0 ∷ 32768 ∷ 98304 ∷ 47 ∷ 32768 ∷ 32768 ∷ 65536 ∷ 56 ∷ 32768 ∷ 65536 ∷ 65536 ∷ 57 ∷ 0 ∷ 98304 ∷ 65536 ∷ 58 ∷ 0 ∷ 65536 ∷ 98304 ∷ 2 ∷ 4 ∷ 0 ∷ 2 ∷ 6 ∷ 4 ∷ 2 ∷ 7 ∷ 6 ∷ 1 ∷ 2 ∷ 0 ∷ 3 ∷ 2 ∷ 1 ∷ 1 ∷ 8 ∷ 3 ∷ 3 ∷ 7 ∷ 2 ∷ 3 ∷ 8 ∷ 7 ∷ 4 ∷ 6 ∷ 5 ∷ 7 ∷ 5 ∷ 6 ∷ 7 ∷ 9 ∷ 5 ∷ 8 ∷ 9 ∷ 7 ∷ [])
+    ∷ row-of (lists Nearest (lat 2 3 3 (replicate 8 o ++ a ∷ replicate 9 o)) Lowest)
+    (16 ∷ 0 ∷ 65536 ∷ 32768 ∷ 17 ∷ 0 ∷ 98304 ∷ 32768 ∷ 18 ∷ 32768 ∷ 65536 ∷ 32768
+    ∷ 20 ∷ 32768 ∷ 98304 ∷ 32768 ∷ 43 ∷ 0 ∷ 32768 ∷ 65536 ∷ 45 ∷ 0 ∷ 32768 ∷ 98304 ∷ 47 ∷ 32768 ∷ 32768 ∷ 65536
+    ∷ 56 ∷ 32768 ∷ 65536 ∷ 65536 ∷ 57 ∷ 0 ∷ 98304 ∷ 65536 ∷ 58 ∷ 0 ∷ 65536 ∷ 98304
+    ∷ 2 ∷ 4 ∷ 0 ∷ 2 ∷ 6 ∷ 4 ∷ 2 ∷ 7 ∷ 6 ∷ 1 ∷ 2 ∷ 0 ∷ 3 ∷ 2 ∷ 1 ∷ 1 ∷ 8 ∷ 3
+    ∷ 3 ∷ 7 ∷ 2 ∷ 3 ∷ 8 ∷ 7 ∷ 4 ∷ 6 ∷ 5 ∷ 7 ∷ 5 ∷ 6 ∷ 7 ∷ 9 ∷ 5 ∷ 8 ∷ 9 ∷ 7 ∷ [])
     ∷ row-of (builds 100 100 (lat 3 2 2 (o ∷ o ∷ a ∷ replicate 9 o)) Lowest) (0 ∷ 5 ∷ 3 ∷ 1 ∷ [])
     ∷ row-of (writes (sizes 1 2 2) 4 1 (replicate 12 (pos 0)) (1 ∷ 2 ∷ 0 ∷ []) 84) (1 ∷ 0 ∷ 0 ∷ [])
     ∷ row-of (writes (sizes 2 2 2) 3 1 (replicate 12 (pos 0)) (3 ∷ 2 ∷ 0 ∷ []) 84) (15 ∷ 0 ∷ 0 ∷ [])
@@ -175,7 +226,7 @@ table =
     ∷ row-of (builds 100 100 (lat 2 2 3 (a ∷ replicate 7 o ++ a ∷ replicate 3 o)) Lowest) (0 ∷ 3 ∷ 1 ∷ 1 ∷ [])
     ∷ row-of (builds 100 100 first-air (at 0 1 0)) (4 ∷ 0 ∷ 0 ∷ 0 ∷ [])
     ∷ row-of (builds 100 100 first-air (at 0 0 1)) (4 ∷ 0 ∷ 0 ∷ 0 ∷ [])
-    ∷ row-of (checksFile first-air (sizes 2 2 2) (pos 0 ∷ pos 49153 ∷ pos 0 ∷ pos 0 ∷ []) []) (17 ∷ 0 ∷ [])
+    ∷ row-of (checksFirst (sizes 2 2 2) (0 ∷ 49153 ∷ 0 ∷ 0 ∷ []) []) (17 ∷ 0 ∷ [])
     -- a check from a named start
     ∷ row-of (checksFrom two-air (at 3 0 0) (at 3 0 0)) (0 ∷ 0 ∷ [])
     ∷ row-of (checksFrom two-air (at 3 0 0) (at 0 0 0)) (17 ∷ 0 ∷ [])
@@ -193,7 +244,8 @@ table =
     ∷ row-of (checkFileLeaves first-air (sizes 2 2 2) three-records (1 ∷ 0 ∷ 2 ∷ []) (full 2 2 57)) (18 ∷ clear-front)
     ∷ row-of (checkFileLeaves first-air (sizes 2 2 2) three-records [] (full 2 2 57)) (19 ∷ clear-front)
     -- what a writer leaves in longer bytes, of longer slices, and what it leaves where it refuses
-    ∷ row-of (writeLeaves (sizes 2 3 64) 1 1 (small-record ++ replicate 4 (pos 7)) (replicate 6 0) (replicate 54 9)) (small-file ++ 9 ∷ 9 ∷ [])
+    ∷ row-of (writeLeaves (sizes 2 3 64) 1 1 (small-record ++ replicate 4 (pos 7)) (replicate 6 0) (replicate 54 9))
+    (small-file ++ 9 ∷ 9 ∷ [])
     ∷ row-of (writeLeaves (sizes 2 3 64) 1 1 small-record (replicate 3 0) (replicate 51 9)) (replicate 51 9)
     -- what a reader leaves in longer slices, signs kept, and what it leaves where it refuses
     ∷ row-of (readLeaves small-file (replicate 5 (pos 9)) (replicate 4 8)) (3 ∷ 516 ∷ 0 ∷ 4294967295 ∷ 18 ∷ 0 ∷ 0 ∷ 0 ∷ 8 ∷ [])

@@ -57,7 +57,8 @@ first-number rule L e = go (airAt L (firstEnd (L .size) e)) (firstEnd (L .size) 
 record-first : (vs : List ℤ) (i : ℕ) → edgeOf vs i ≡ getD (recordOf vs i) 0 (pos 0)
 unfolding recordOf edgeOf
 record-first vs i =
-    ap (λ (n : ℕ). getD vs n (pos 0)) (omega arith) ∙ sym (getD-take 4 (drop (4 * i) vs) 0 (pos 0) (omega arith) ∙ getD-drop (4 * i) vs 0 (pos 0))
+    ap (λ (n : ℕ). getD vs n (pos 0)) (omega arith)
+    ∙ sym (getD-take 4 (drop (4 * i) vs) 0 (pos 0) (omega arith) ∙ getD-drop (4 * i) vs 0 (pos 0))
 
 pub edges-same : (vs : List ℤ) (i j : ℕ) → recordOf vs i ≡ recordOf vs j → edgeOf vs i ≡ edgeOf vs j
 edges-same vs i j q = record-first vs i ∙ (ap (λ (l : List ℤ). getD l 0 (pos 0)) q ∙ sym (record-first vs j))

@@ -12,7 +12,8 @@ use Rattle.lists.proofs.Closure.{bool-same}
 use Rattle.lists.proofs.Firsts.{first-holds, first-before}
 use Rattle.paper.specs.declared.Sizes.{Sizes}
 use Rattle.paper.specs.declared.Place.{Place}
-use Rattle.paper.specs.Lattice.{Lattice, place, cubes, cubeAt, inLattice, Face, faces, faceAt, crossed, lowest, inner, inside, mayStart}
+use Rattle.paper.specs.Lattice.{Lattice, place, cubes, cubeAt, inLattice, Face, faces}
+use Rattle.paper.specs.Lattice.{faceAt, crossed, lowest, inner, inside, mayStart}
 use Rattle.paper.specs.Within.{CubeInside}
 use Rattle.paper.proofs.Visits.{in-lattice, lattice-in}
 

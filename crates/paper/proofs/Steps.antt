@@ -11,7 +11,8 @@ use Rattle.lists.specs.Lists.{each, isIn}
 use Rattle.lists.proofs.Member.{and3, both3, any-each, in-consIf, consIf-in}
 use Rattle.lists.proofs.Every.{any-at, at-any}
 use Rattle.paper.specs.declared.Place.{Place}
-use Rattle.paper.specs.Lattice.{Lattice, Face, place, face, airAt, cubes, cubeNo, cubeAt, corner, mixed, mixedAt, visitable, faces, faceAt, stepOver, steps}
+use Rattle.paper.specs.Lattice.{Lattice, Face, place, face, airAt, cubes, cubeNo, cubeAt, corner}
+use Rattle.paper.specs.Lattice.{mixed, mixedAt, visitable, faces, faceAt, stepOver, steps}
 use Rattle.paper.specs.Within.{Sized}
 use Rattle.paper.proofs.Numbers.{cube-back, cube-place}
 use Rattle.paper.proofs.Visits.{visitable-in}
@@ -111,7 +112,8 @@ step-back L s j k hj v t =
     let hb = visitable-in L b (m .1) in
     let place-k : cubeAt z k ≡ b = ap (cubeAt z) (e .1) ∙ cube-place z b (omega (arith, hb)) (omega (arith, hb)) in
     let same : mixedAt L b (g .corners) ≡ mixedAt L p (f .corners) =
-    mixed-samples L b (g .corners) ∙ (ap (λ (l : List Place). mixed (map (airAt L) l)) (r .samples) ∙ sym (mixed-samples L p (f .corners))) in
+    mixed-samples L b (g .corners)
+    ∙ (ap (λ (l : List Place). mixed (map (airAt L) l)) (r .samples) ∙ sym (mixed-samples L p (f .corners))) in
     let inside : T (visitable L (g .beyond)) = subst (λ (q : Place). T (visitable L q)) (sym (r .back)) v in
     let number : cubeNo z (g .beyond) ≡ j = ap (cubeNo z) (r .back) ∙ cube-back z s j hj in
     let open-way : T (g .there && visitable L (g .beyond) && mixedAt L b (g .corners)) =

@@ -43,7 +43,8 @@ on-triangles p h =
     all-weak (λ t. T (all (λ n. all (p t n) (getD rows n [])) (range 0 16))) _
     (λ t g n hn.
     all-test (p t n) (getD rows n [])
-    (all-in (λ m. T (all (p t m) (getD rows m []))) (range 0 16) (all-test (λ m. all (p t m) (getD rows m [])) (range 0 16) g) n (in-range 0 16 n (omega arith) (omega arith))))
+    (all-in (λ m. T (all (p t m) (getD rows m []))) (range 0 16) (all-test (λ m. all (p t m) (getD rows m [])) (range 0 16) g)
+    n (in-range 0 16 n (omega arith) (omega arith))))
     tets (all-test (λ t. all (λ n. all (p t n) (getD rows n [])) (range 0 16)) tets h)
 
 -- ── rows ──
@@ -122,8 +123,9 @@ on-cube p h Q L k f =
     all-each Q (λ t. map (triEdges (L .size) at t) (getD rows (rowAt (airAt L) at t) [])) tets
     (all-weak (λ t. (n : ℕ) → n < 16 → All (λ r. T (p t n r)) (getD rows n [])) _
     (λ t g.
-    all-map Q (triEdges (L .size) at t) (getD rows (rowAt (airAt L) at t) [])
-    (all-weak (λ r. T (p t (rowAt (airAt L) at t) r)) _ (λ r e. f t r e) (getD rows (rowAt (airAt L) at t) []) (g (rowAt (airAt L) at t) (row-lt L at t))))
+    let row = rowAt (airAt L) at t in
+    all-map Q (triEdges (L .size) at t) (getD rows row [])
+    (all-weak (λ r. T (p t row r)) _ (λ r e. f t r e) (getD rows row []) (g row (row-lt L at t))))
     tets (on-triangles p h))
 
 -- what holds of each edge of a tetrahedron that passes a test of every edge, and whose ends are on different sides, holds of each
@@ -172,7 +174,8 @@ sided t r bit c =
 
 -- the triangle r of row n runs counter-clockwise seen from each air corner, and clockwise from each solid one
 unfoldable pub counterClockwise : Tet → ℕ → Tri → Bool
-counterClockwise t n r = sided t r (n / 8) (t .a) && sided t r (n / 4 % 2) (t .b) && sided t r (n / 2 % 2) (t .c) && sided t r (n % 2) (t .d)
+counterClockwise t n r =
+    sided t r (n / 8) (t .a) && sided t r (n / 4 % 2) (t .b) && sided t r (n / 2 % 2) (t .c) && sided t r (n % 2) (t .d)
 
 pub turning : T (everyTriangle counterClockwise)
 unfolding everyTriangle counterClockwise sided tets rows tetEdges

@@ -14,7 +14,8 @@ use Rattle.paper.specs.declared.Sizes.{Sizes}
 use Rattle.paper.specs.Tables.{Tri}
 use Rattle.paper.specs.Sheet.{Sheet, inFile}
 use Rattle.paper.specs.File.{badTriangle, firstBad, fileV, fileT, fileSizes, fileVertices, fileTriangles, fileTests}
-use Rattle.paper.specs.Check.{sameNumber, sameNumbers, turned, recordOf, edgeOf, badRecord, triangleOf, badNaming, complete, sameSizes, sheetTests}
+use Rattle.paper.specs.Check.{sameNumber, sameNumbers, turned, recordOf, edgeOf, badRecord}
+use Rattle.paper.specs.Check.{triangleOf, badNaming, complete, sameSizes, sheetTests}
 use Rattle.paper.proofs.Judged.{Passed}
 use Rattle.paper.proofs.Records.{same-number, number-same, same-numbers, numbers-same}
 
@@ -179,6 +180,9 @@ module _ (z : Sizes) (f : ℕ → List ℤ) (S : Sheet) (bs : List ℕ) where
           c .sizes,
           (
             of-none (badRecord S vs) (fileV bs) (λ i h. recorded-back f S vs are i (c .records i h)),
-            (of-none (badNaming S vs ts) (fileT bs) (λ i h. listed-back S vs ts i (c .triangles i h)), (whole-back S vs ts (fileV bs) (fileT bs) (c .full), tt)),
+            (
+              of-none (badNaming S vs ts) (fileT bs) (λ i h. listed-back S vs ts i (c .triangles i h)),
+              (whole-back S vs ts (fileV bs) (fileT bs) (c .full), tt),
+            ),
           ),
         )

@@ -10,7 +10,8 @@ use Rattle.lists.proofs.Member.{T→eq, and-both, and-left, and-right, and3, bo
 use Rattle.lists.proofs.Closure.{sound, complete, reached-kept, reached-lt}
 use Rattle.paper.specs.declared.Sizes.{Sizes}
 use Rattle.paper.specs.declared.Place.{Place}
-use Rattle.paper.specs.Lattice.{Lattice, axis, axes, cubes, cubeNo, cubeAt, inLattice, free, visitable, crossed, mixedAt, faces, stepOver, steps, Visited, visited}
+use Rattle.paper.specs.Lattice.{Lattice, axis, axes, cubes, cubeNo, cubeAt, inLattice, free, visitable}
+use Rattle.paper.specs.Lattice.{crossed, mixedAt, faces, stepOver, steps, Visited, visited}
 use Rattle.paper.specs.Within.{Sized, CubeIn}
 use Rattle.paper.proofs.Numbers.{cube-lt, cube-place}
 

@@ -7,7 +7,8 @@ use lib.IntN.{pos, negsuc}
 use lib.ListN.{replicate}
 use Rattle.paper.specs.declared.Start.the-variants.{Lowest}
 use Rattle.paper.specs.declared.Rule.the-variants.{Down, Nearest}
-use Rattle.paper.proofs.Cases.{Case, builds, lists, files, crosses, Row, row-of, outcome, lat, at, first-air, rtn-air, middle-air, two-air}
+use Rattle.paper.proofs.Cases.{Case, builds, lists, files, crosses, Row, row-of, outcome}
+use Rattle.paper.proofs.Cases.{lat, at, first-air, rtn-air, middle-air, two-air}
 
 table : List Row
 table =

@@ -14,7 +14,8 @@ use Rattle.paper.specs.declared.Start.the-variants.{Unnamed, Lowest, Cub
 use Rattle.paper.specs.declared.Rule.{Rule}
 use Rattle.paper.specs.declared.Rule.the-variants.{Nearest}
 use Rattle.paper.specs.declared.Built.{Built}
-use Rattle.paper.specs.Lattice.{Lattice, lattice, axes, samples, air, sampleNo, valueAt, airAt, isFill, fillAt, cubes, cubeNo, cubeAt, corner, mixed, mixedAt, inLattice, free, visitable, crossed, lowest, inner, inside, mayStart}
+use Rattle.paper.specs.Lattice.{Lattice, lattice, axes, samples, air, sampleNo, valueAt, airAt, isFill, fillAt, cubes, cubeNo, cubeAt}
+use Rattle.paper.specs.Lattice.{corner, mixed, mixedAt, inLattice, free, visitable, crossed, lowest, inner, inside, mayStart}
 use Rattle.paper.specs.Sheet.{Sheet, sheetOf, vertexWords, triangleWords}
 use Rattle.paper.specs.Tests.{Test, test, judge}
 use Rattle.paper.specs.Room.{Work, Lengths, lengths, roomy, vertexRoom, triangleRoom, roomTests, workAfter, outputAfter}
@@ -118,5 +119,6 @@ worked-start :
     let given : Lattice → Start → ℕ = λ L s. judge (startTests L s) .number in
     (given wide Unnamed ∷ startOf wide Unnamed ∷ given wide Lowest ∷ startOf wide Lowest ∷ given tight Unnamed ∷ given tight Lowest ∷ [])
     ≡ (0 ∷ 13 ∷ 0 ∷ 0 ∷ 5 ∷ 0 ∷ [])
-unfolding air sampleNo valueAt airAt isFill fillAt cubes cubeAt corner mixed mixedAt inLattice free visitable crossed lowest inner inside mayStart startTests
+unfolding air sampleNo valueAt airAt isFill fillAt cubes cubeAt corner mixed mixedAt
+    inLattice free visitable crossed lowest inner inside mayStart startTests
 worked-start = refl

@@ -202,7 +202,8 @@ worked :
     λ v. keep (λ c. visitable (lattice (record { nx = 2; ny = 2; nz = 2 }) (set (replicate 8 o) c v)) (place 0 0 0)) (range 0 8) in
     (keep (crossed ring) (range 0 8) ∷ visited ring 1 ∷ left fill ∷ left (negsuc 32766) ∷ [])
     ≡ (range 1 7 ∷ range 1 7 ∷ [] ∷ range 0 8 ∷ [])
-unfolding grow rounds reached air sampleNo valueAt airAt isFill fillAt cubes cubeNo cubeAt corner mixed mixedAt inLattice free visitable crossed faces stepOver steps visited
+unfolding grow rounds reached air sampleNo valueAt airAt isFill fillAt cubes cubeNo cubeAt
+    corner mixed mixedAt inLattice free visitable crossed faces stepOver steps visited
 worked = refl
 
 -- (iv): the cubes of 4×5×6 samples that have no face in the bounds; then, of 6×4×4, only (0, 0, 0) and (4, 2, 2) air, the crossed cubes
@@ -216,5 +217,6 @@ worked-start :
     ∷ (lowest (tray .size) (mayStart tray) ∷ lowest (tray .size) (crossed tray) ∷ [])
     ∷ [])
     ≡ ((16 ∷ 19 ∷ 28 ∷ 31 ∷ 40 ∷ 43 ∷ []) ∷ (23 ∷ []) ∷ (23 ∷ 0 ∷ []) ∷ [])
-unfolding air sampleNo valueAt airAt isFill fillAt cubes cubeAt corner mixed mixedAt inLattice free visitable crossed lowest inner inside mayStart
+unfolding air sampleNo valueAt airAt isFill fillAt cubes cubeAt corner mixed
+    mixedAt inLattice free visitable crossed lowest inner inside mayStart
 worked-start = refl

@@ -77,4 +77,7 @@ clean z w = work (cleared (needed z) (w .words)) (cleared (needed z) (w .waiting
 -- the work room after an answer
 abbrev pub workAfter : ℕ → Sizes → Work → Work
 workAfter number z w =
-    work (frontAfter number (needed z) (w .words)) (frontAfter number (needed z) (w .waiting)) (frontAfter number (neededSlots z) (w .slots))
+    work
+    (frontAfter number (needed z) (w .words))
+    (frontAfter number (needed z) (w .waiting))
+    (frontAfter number (neededSlots z) (w .slots))

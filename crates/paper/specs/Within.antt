@@ -1,5 +1,5 @@
--- What inner functions ask of their arguments: sizes that pass test 1, room that passes test 3, places that are in the lattice, numbers below
--- a bound; and the cube that can hold a triangle. Assumes nothing.
+-- What inner functions ask of their arguments: sizes that pass test 1, room that passes test 3, places that are in the lattice, numbers
+-- below a bound; and the cube that can hold a triangle. Assumes nothing.
 use mathlib.Core.Path.{_≡_}
 use Prim.Native.Nat.{ℕ, _+_, _≤_, _<_, min}
 use lib.ListN.{length}

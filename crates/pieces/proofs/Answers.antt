@@ -26,13 +26,15 @@ use Rattle.bits.specs.Words.{bit}
 use Rattle.bits.proofs.Bits.{bit-of-0}
 use Rattle.rows.specs.Rows.{isOneOf, HasBoth, HasCubes}
 use Rattle.rows.proofs.Making.{row-lt}
-use Rattle.spread.specs.Ways.{words, rowsOf, planOf}
+use Rattle.ways.specs.Ways.{words, rowsOf, planOf}
 use Rattle.spread.specs.Flooded.{Empty}
-use Rattle.spread.proofs.Ways.{rows-few, beyond-more}
+use Rattle.ways.proofs.Ways.{rows-few, beyond-more}
 use Rattle.spread.proofs.Finish.{empty-closed}
-use Rattle.pieces.specs.declared.Found.{Found}
-use Rattle.pieces.specs.Pieces.{scanned, plainScan, Lent, lent, pieceTests, findNumber, tells, foundAt, foundIn, asBuilding, leftAt, lentAfter, Finds}
-use Rattle.pieces.specs.Gathering.{Held, held, Fit, Gathered, Passed, Leads, FindsPast}
+use Rattle.tray.specs.declared.Found.{Found}
+use Rattle.tray.specs.Pieces.{scanned, plainScan, Lent, lent, pieceTests, findNumber}
+use Rattle.tray.specs.Pieces.{tells, foundAt, foundIn, asBuilding, leftAt, lentAfter, Finds}
+use Rattle.gather.specs.Gathering.{Held, held, Fit, Gathered, Passed, Leads}
+use Rattle.pieces.specs.Past.{FindsPast}
 
 -- ── where the pass begins ──
 

@@ -1,4 +1,2 @@
--- What the contracts cite: the pieces of a lattice and the answer of a search for them (Pieces), and what the passes over the cubes hold
--- (Gathering).
-pub mod Pieces
-pub mod Gathering
+-- What the contract of the search past test 3 cites.
+pub mod Past

@@ -41,18 +41,18 @@ use Rattle.stl.specs.declared.Loaded.{Loaded}
 use Rattle.stl.specs.Stl.{nineOf, StlWrites, stlFacet, StlReads}
 use Rattle.stl.proofs.Promises.{Exactly as CornerOf, Returned as StlReturned}
 use Rattle.stl.proofs.Promises as stl
-use Rattle.pieces.specs.declared.Found.{Found}
-use Rattle.pieces.specs.Pieces.{lowestCubes, plainScan, Lent as ListLent, Finds}
-use Rattle.pieces.proofs.Scanning as scanning
-use Rattle.pieces.proofs.Demand as searches
+use Rattle.tray.specs.declared.Found.{Found}
+use Rattle.tray.specs.Pieces.{lowestCubes, plainScan, Lent as ListLent, Finds}
+use Rattle.tray.proofs.Scanning as scanning
+use Rattle.tray.proofs.Demand as searches
 use Rattle.blocks.specs.Blocks.{inBlock, OneSided}
 use Rattle.blocks.proofs.Alike as blocks
-use Rattle.floats.specs.declared.Level.{Level}
-use Rattle.floats.specs.Level.{levelOf}
-use Rattle.floats.specs.Sample.{none}
-use Rattle.floats.specs.Convert.{samplesOf, Converts}
-use Rattle.floats.proofs.Promises.{Singles, Exactly as SampleOf}
-use Rattle.floats.proofs.Promises as floats
+use Rattle.greys.specs.declared.Level.{Level}
+use Rattle.greys.specs.Level.{levelOf}
+use Rattle.greys.specs.Sample.{none}
+use Rattle.greys.specs.Convert.{samplesOf, Converts}
+use Rattle.greys.proofs.Promises.{Singles, Exactly as SampleOf}
+use Rattle.greys.proofs.Promises as floats
 use Rattle.paper.proofs.Crossing.{WithinHalf}
 use Rattle.paper.proofs.Crossing as rounding
 use Rattle.paper.proofs.Agreement as agree
@@ -152,14 +152,14 @@ built-accepted = made.built-accepted
 
 -- ── document 02 (iii): "−32768 is no sample" ──
 
--- "Demands 2 and 3 read 'outer face' as any cube face that is not shared by two visitable cubes": where no sample is the fill, these are the
--- outer faces of the lattice, and what was promised before holds as it was: of every sheet, and of every file that is accepted
+-- "Demands 2 and 3 read 'outer face' as any cube face that is not shared by two visitable cubes": where no sample is the fill, these are
+-- the outer faces of the lattice, and what was promised before holds as it was: of every sheet, and of every file that is accepted
 pub sheet-pairs-outer : (rule : Rule) (L : Lattice) (s : Start) (n : Lengths) → judge (sampleTests L s n) .number ≡ 0 → T (noFill L)
     → let S = sheetOf rule L (startOf L s) in Demand3By (outer (L .size)) L (startOf L s) (S .edges) (S .triangles)
 sheet-pairs-outer = pairs.sheet-outer
 
-pub accepted-pairs-outer : (rule : Rule) (L : Lattice) (s : Start) (bs : List ℕ) (n : Lengths) → checked rule L s bs n ≡ verdict 0 0 → T (noFill L)
-    → Demand3By (outer (L .size)) L (startOf L s) (fileEdges bs) (fileCorners bs)
+pub accepted-pairs-outer : (rule : Rule) (L : Lattice) (s : Start) (bs : List ℕ) (n : Lengths)
+    → checked rule L s bs n ≡ verdict 0 0 → T (noFill L) → Demand3By (outer (L .size)) L (startOf L s) (fileEdges bs) (fileCorners bs)
 accepted-pairs-outer = pairs.file-outer
 
 -- "a cube with such a corner counts as not crossed and is never visited": from a start that passes its tests
@@ -173,7 +173,8 @@ module _ (L : Lattice) (p : Place) (h : CubeIn (L .size) p) (c : ℕ) (l : c < 8
       → judge (shapeTests L (lengths (before .work))) .number ≡ 0 → r .number ≡ 5
   fill-build {before} b e = ap (λ (r : Built). r .number) (b .answer ∙ filling.fill-built L p h c l f before e)
 
-  pub fill-check : (n : Lengths) → judge (shapeTests L n) .number ≡ 0 → (rule : Rule) (bs : List ℕ) → checked rule L (Cube p) bs n ≡ verdict 5 0
+  pub fill-check : (n : Lengths) → judge (shapeTests L n) .number ≡ 0
+      → (rule : Rule) (bs : List ℕ) → checked rule L (Cube p) bs n ≡ verdict 5 0
   fill-check = filling.fill-checked L p h c l f
 
 -- "Pieces parted by fill may share a lattice edge; each has its own vertex there.": these two do
@@ -252,7 +253,8 @@ pub one-stl-read : {bs : List ℕ} {before after after′ : List ℤ} {r r′ : 
     → StlReads bs before r after → StlReads bs before r′ after′ → (r ≡ r′) × (after ≡ after′)
 one-stl-read = stl.stl-reads-agree
 
-module _ {nv nt : ℕ} {vs : List ℤ} {ts before after : List ℕ} {r : Wrote} (w : StlWrites nv nt vs ts before r after) (e : r .number ≡ 0) where
+module _ {nv nt : ℕ} {vs : List ℤ} {ts before after : List ℕ} {r : Wrote}
+    (w : StlWrites nv nt vs ts before r after) (e : r .number ≡ 0) where
   -- "nothing may be rounded": each float of each facet is exactly its coordinate / 65,536
   pub stl-exact : (i : ℕ) → i < nt
       → let f = stlFacet (take (r .bytes) after) i in

@@ -70,7 +70,7 @@ fn lowest_cube(rows: &[u64], may: &[u64], sizes: Sizes, off: bool) -> Ready
     requires { ⌜ Sized sizes × (sizes .ny * sizes .nz ≤ length (now rows)) × (sizes .ny * sizes .nz ≤ length (now may)) ⌝ }
     ensures { λ r. ⌜ ChosenBy sizes (now (rows .entry)) (now (may .entry)) (unplaced off) r ⌝ }
 {
-    let k = rows::lowest_crossed(rows, may, sizes, off);
+    let k = lowest::lowest_crossed(rows, may, sizes, off);
     let n = lattice::cube_count(sizes);
     if n <= k {
         return Ready { number: 5, cube: 0 };
@@ -132,7 +132,7 @@ pub fn begin(
             cube: 0,
         };
     }
-    rows::sample_rows(samples, sizes, rows, may);
-    rows::free_rows(sizes, may);
+    sampling::sample_rows(samples, sizes, rows, may);
+    sampling::free_rows(sizes, may);
     choose(rows, may, sizes, start)
 }

@@ -18,14 +18,17 @@ use Rattle.lists.proofs.Runs.{over-along, at-along, length-along}
 use Rattle.lists.proofs.Within.{T→false}
 use Rattle.paper.specs.declared.Sizes.{Sizes}
 use Rattle.paper.specs.declared.Place.{Place}
-use Rattle.paper.specs.Lattice.{Lattice, place, air, airAt, isFill, fillAt, valueAt, sampleNo, corner, mixed, mixedAt, free, visitable, crossed, cubeNo, faces, faceAt}
+use Rattle.paper.specs.Lattice.{Lattice, place, air, airAt, isFill, fillAt, valueAt, sampleNo}
+use Rattle.paper.specs.Lattice.{corner, mixed, mixedAt, free, visitable, crossed, cubeNo, faces, faceAt}
 use Rattle.paper.specs.Within.{CubeIn}
 use Rattle.paper.proofs.Visits.{visitable-in, visitable-at, crossed-at}
 use Rattle.sides.specs.Pattern.{bits, patternAt}
 use Rattle.rows.specs.declared.Quad.{Quad}
 use Rattle.bits.specs.Words.{bit, word}
 use Rattle.bits.proofs.Bits.{bit-and, bit-up, bit-not, bit-word, bit-inner, word-lt, word-ext, word-is, masked}
-use Rattle.rows.specs.Rows.{HasRows, HasFree, rowNo, passFrom, passRows, sideRow, sideRows, fillRows, quadAt, four, eitherOf, bothOf, cornerBit, pairs, mixedWord, freeIn, quads, freeRows, crossedIn, crossedRow, gateRow, patternIn, acrossIn, faceRows, mixedIn, faceRow, crossedBy}
+use Rattle.rows.specs.Rows.{HasRows, HasFree, rowNo, passFrom, passRows, sideRow, sideRows, fillRows, quadAt}
+use Rattle.rows.specs.Rows.{four, eitherOf, bothOf, cornerBit, pairs, mixedWord, freeIn, quads, freeRows}
+use Rattle.rows.specs.Rows.{crossedIn, crossedRow, gateRow, patternIn, acrossIn, faceRows, mixedIn, faceRow, crossedBy}
 use Rattle.rows.proofs.Alike.{joined2, joined4, any-bit, mixed-bit, any-map, across-bit}
 
 -- ── by the words alone ──
@@ -37,6 +40,15 @@ crossed-bit q m x =
     bit-and m (mixedWord (eitherOf q) (bothOf q)) x
     ∙ ap (λ (b : Bool). bit m x && b)
     (mixed-bit (q .a) (q .b ∷ q .c ∷ q .d ∷ []) _ _ x (joined4 (q .a) (q .b) (q .c) (q .d)))
+
+module _ (z : Sizes) (rows may : List ℕ) where
+  -- the crossed cubes of a row
+  abbrev pub crossedAt : ℕ → ℕ → ℕ
+  crossedAt y w = crossedRow (quadAt rows (z .ny) (y + z .ny * w)) (getD may (y + z .ny * w) 0)
+
+  pub row-bit : (m y w x : ℕ) → m ≡ crossedAt y w → bit m x ≡ crossedBy z rows may (place x y w)
+  unfolding crossedBy
+  row-bit m y w x e = ap (λ (m : ℕ). bit m x) e ∙ crossed-bit (quadAt rows (z .ny) (y + z .ny * w)) (getD may (y + z .ny * w) 0) x
 
 -- mixed faces across x, between two cubes of m
 pub gate-bit : (q : Quad) (m x : ℕ) → suc x < 64 → bit (gateRow q m) (suc x) ≡ (bit m (suc x) && bit m x && acrossIn q (suc x))
@@ -100,7 +112,9 @@ long f n k old h g =
 module _ (t : ℤ → Bool) (L : Lattice) (old : List ℕ) (h : L .size .ny * L .size .nz ≤ length old) where
   pub made-long : L .size .ny * L .size .nz ≤ length (over (passRows t L) old)
   unfolding passRows
-  made-long = long (λ r. passFrom t (L .values) (L .size .nx * r) (L .size .nx)) (L .size .ny * L .size .nz) (L .size .ny * L .size .nz) old h (omega arith)
+  made-long =
+      let n = L .size .ny * L .size .nz in
+      long (λ r. passFrom t (L .values) (L .size .nx * r) (L .size .nx)) n n old h (omega arith)
 
   made-at : (y z : ℕ) → y < L .size .ny → z < L .size .nz
       → getD (over (passRows t L) old) (y + L .size .ny * z) 0 ≡ word (λ x. t (valueAt L (place x y z))) (L .size .nx)
@@ -278,8 +292,10 @@ module _ (L : Lattice) (old : List ℕ) (h : L .size .ny * L .size .nz ≤ lengt
       go : (p : Place) → p .y + 1 < L .size .ny → p .z + 1 < L .size .nz → Dec (p .x + 1 < L .size .nx)
           → (ltb (p .x) (L .size .nx - 1) && freeIn (quadAt fills (L .size .ny) (rowNo (L .size) p)) (p .x)) ≡ visitable L p
       go p hy hz (yes l) =
-          ap (λ (b : Bool). b && freeIn (quadAt fills (L .size .ny) (rowNo (L .size) p)) (p .x)) (lt-ltb (p .x) (L .size .nx - 1) (omega arith))
+          ap (λ (b : Bool). b && freeIn (quadAt fills (L .size .ny) (rowNo (L .size) p)) (p .x))
+          (lt-ltb (p .x) (L .size .nx - 1) (omega arith))
           ∙ free-at p (record { x = l; y = hy; z = hz })
       go p hy hz (no l) =
-          ap (λ (b : Bool). b && freeIn (quadAt fills (L .size .ny) (rowNo (L .size) p)) (p .x)) (le-ltb (p .x) (L .size .nx - 1) (omega arith))
+          ap (λ (b : Bool). b && freeIn (quadAt fills (L .size .ny) (rowNo (L .size) p)) (p .x))
+          (le-ltb (p .x) (L .size .nx - 1) (omega arith))
           ∙ sym (T→false (visitable L p) (λ t. l (visitable-in L p t .x)))

@@ -15,7 +15,8 @@ use Rattle.paper.specs.declared.Verdict.{Verdict}
 use Rattle.paper.specs.Lattice.{axes}
 use Rattle.paper.specs.Tests.{Test, test, judge, verdict}
 use Rattle.paper.specs.Room.{roomTests, outputAfter}
-use Rattle.paper.specs.File.{signed32, contentOf, fileLength, fileBytes, firstBad, indexTest, limits, writeVerdict, wrote, Writes, fileV, fileT, fileSizes, fileVertices, fileTriangles, fileTests, readVerdict, got, Reads}
+use Rattle.paper.specs.File.{signed32, contentOf, fileLength, fileBytes, firstBad, indexTest, limits, writeVerdict, wrote}
+use Rattle.paper.specs.File.{Writes, fileV, fileT, fileSizes, fileVertices, fileTriangles, fileTests, readVerdict, got, Reads}
 use Rattle.paper.proofs.Judged.{Numbered, Passed, numbered-both, passed-both, judge-all, judge-none, passed-judge, sized, sized-axes}
 use Rattle.lists.proofs.Stores.{sets-front}
 use Rattle.codec.proofs.Runs.{wordAt}
@@ -45,7 +46,8 @@ module _ (z : Sizes) (nv nt : ℕ) (vs : List ℤ) (ts : List ℕ) where
 
   pub taken : (room : ℕ) → writeVerdict z nv nt vs ts room .number ≡ 0 → Taken z nv nt vs ts room
   taken room e =
-      let a : Passed (writeTests room) = judge-all (writeTests room) (write-numbered room) (ap (λ (v : Verdict). v .number) (sym (write-tests room)) ∙ e) in
+      let a : Passed (writeTests room) =
+      judge-all (writeTests room) (write-numbered room) (ap (λ (v : Verdict). v .number) (sym (write-tests room)) ∙ e) in
       record {
         sized = sized z (a .0);
         counts = counted nv nt (length vs) (length ts) (a .1 .0);
@@ -69,7 +71,8 @@ module _ (z : Sizes) (nv nt : ℕ) (vs : List ℤ) (ts : List ℕ) where
       )
 
   module _ (before : List ℕ) (v : Verdict) (is : v ≡ writeVerdict z nv nt vs ts (length before)) where
-    pub write-refused : (v .number ≡ 0 → ⊥) → Writes z nv nt vs ts before (record { number = v .number; place = v .place; bytes = 0 }) before
+    pub write-refused : (v .number ≡ 0 → ⊥)
+        → Writes z nv nt vs ts before (record { number = v .number; place = v .place; bytes = 0 }) before
     unfolding wrote outputAfter
     write-refused h = record { answer = rw (← is, ne-eqb (v .number) 0 h); left = rw (← is, ne-eqb (v .number) 0 h) }
 
@@ -98,7 +101,8 @@ module _ (bs : List ℕ) (vs : List ℤ) (ts : List ℕ) where
     answer = read-tests ∙ sym is
 
     pub read-refused : (v .number ≡ 0 → ⊥)
-        → Reads bs vs ts (record { number = v .number; place = v .place; vertices = 0; triangles = 0; sizes = record { nx = 0; ny = 0; nz = 0 } }) vs ts
+        → let none : Sizes = record { nx = 0; ny = 0; nz = 0 } in
+        Reads bs vs ts (record { number = v .number; place = v .place; vertices = 0; triangles = 0; sizes = none }) vs ts
     unfolding got outputAfter
     read-refused h =
         let n = ne-eqb (v .number) 0 h in
@@ -136,8 +140,10 @@ module _ (bs : List ℕ) (vs : List ℤ) (ts : List ℕ) where
       read-done nv nt z vs′ ts′ ev et ez a b =
           let n = readable-none in
           let r = readable-laid in
-          let v : sets vs 0 (fileVertices bs) ≡ over (fileVertices bs) vs = sets-front vs (fileVertices bs) (omega (arith, vertices-length bs, r .room-v)) in
-          let t : sets ts 0 (fileTriangles bs) ≡ over (fileTriangles bs) ts = sets-front ts (fileTriangles bs) (omega (arith, triangles-length bs, r .room-t)) in
+          let v : sets vs 0 (fileVertices bs) ≡ over (fileVertices bs) vs =
+          sets-front vs (fileVertices bs) (omega (arith, vertices-length bs, r .room-v)) in
+          let t : sets ts 0 (fileTriangles bs) ≡ over (fileTriangles bs) ts =
+          sets-front ts (fileTriangles bs) (omega (arith, triangles-length bs, r .room-t)) in
           record {
             answer = rw (n, ev, et, ez);
             vertices = rw n (a ∙ rw (ev, vertices-are) v);

@@ -8,7 +8,8 @@ use lib.Seq.{take-add, take-all, drop-drop}
 use Rattle.lists.specs.Lists.{each}
 use Rattle.lists.specs.Bytes.{le, field}
 use Rattle.paper.specs.Tests.{judge}
-use Rattle.paper.specs.File.{signed32, contentOf, trailerBytes, fileBytes, trailer, fileV, fileT, fileSizes, fileVertices, fileTriangles, fileTests}
+use Rattle.paper.specs.File.{signed32, contentOf, trailerBytes, fileBytes, trailer, fileV}
+use Rattle.paper.specs.File.{fileT, fileSizes, fileVertices, fileTriangles, fileTests}
 use Rattle.codec.specs.Words.{wordBytes, Bytes}
 use Rattle.codec.proofs.Bytes.{le-field, field-lt}
 use Rattle.codec.proofs.Signed.{bits-signed}
@@ -84,7 +85,9 @@ pub rewritten : (bs : List ℕ) → Bytes bs → judge (fileTests bs) .number �
 unfolding fileBytes end
 rewritten bs bytes e =
     let l = laid-out bs e in
-    let v : take (4 * fileV bs) (fileVertices bs) ≡ fileVertices bs = take-all (4 * fileV bs) (fileVertices bs) (omega (arith, vertices-length bs)) in
-    let t : take (3 * fileT bs) (fileTriangles bs) ≡ fileTriangles bs = take-all (3 * fileT bs) (fileTriangles bs) (omega (arith, triangles-length bs)) in
+    let v : take (4 * fileV bs) (fileVertices bs) ≡ fileVertices bs =
+    take-all (4 * fileV bs) (fileVertices bs) (omega (arith, vertices-length bs)) in
+    let t : take (3 * fileT bs) (fileTriangles bs) ≡ fileTriangles bs =
+    take-all (3 * fileT bs) (fileTriangles bs) (omega (arith, triangles-length bs)) in
     let n : length bs - 24 ≡ 16 * fileV bs + 12 * fileT bs = omega (arith, l .ranged .long) in
     rw (v, t, words bs bytes l, indices bs bytes l, trailing bs bytes l, n, ← take-add, take-append-drop)

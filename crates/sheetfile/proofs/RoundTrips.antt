@@ -16,7 +16,8 @@ use Rattle.paper.specs.declared.Wrote.{Wrote}
 use Rattle.paper.specs.declared.Got.{Got}
 use Rattle.paper.specs.Tests.{verdict}
 use Rattle.paper.specs.Room.{vertexRoom, triangleRoom, outputAfter}
-use Rattle.paper.specs.File.{contentOf, fileLength, fileBytes, writeVerdict, wrote, Writes, fileV, fileT, fileSizes, fileVertices, fileTriangles, fileTests, readVerdict, got, Reads}
+use Rattle.paper.specs.File.{contentOf, fileLength, fileBytes, writeVerdict, wrote, Writes, fileV, fileT}
+use Rattle.paper.specs.File.{fileSizes, fileVertices, fileTriangles, fileTests, readVerdict, got, Reads}
 use Rattle.paper.proofs.Judged.{judge-past}
 use Rattle.codec.specs.Words.{Bytes, Words}
 use Rattle.layout.proofs.Trailer.{vertices-length, triangles-length}
@@ -66,14 +67,21 @@ module _ {z : Sizes} {nv nt : ℕ} {vs : List ℤ} {ts before after : List ℕ} 
       let n = taken-verdict z nv nt vs ts (length before) t in
       let b : r .bytes ≡ length file = ap (λ (x : Wrote). x .bytes) (w .answer) ∙ rw n (sym (file-long z nv nt vs ts (t .counts))) in
       let a : after ≡ over file before = w .left ∙ rw n in
-      record { passed = e; bytes = ap (take (r .bytes)) a ∙ (ap (λ (k : ℕ). take k (over file before)) b ∙ take-append-seam file (drop (length file) before)) }
+      record {
+        passed = e;
+        bytes =
+            ap (take (r .bytes)) a
+            ∙ (ap (λ (k : ℕ). take k (over file before)) b ∙ take-append-seam file (drop (length file) before));
+      }
 
   -- read with room, they give the sizes, the counts, every record and every triangle that were given to the writer
-  pub read-of-written : {us us′ : List ℤ} {ss ss′ : List ℕ} {g : Got} → Words vs → r .number ≡ 0 → Reads (take (r .bytes) after) us ss g us′ ss′
+  pub read-of-written : {us us′ : List ℤ} {ss ss′ : List ℕ} {g : Got}
+      → Words vs → r .number ≡ 0 → Reads (take (r .bytes) after) us ss g us′ ss′
       → nv ≤ vertexRoom us → nt ≤ triangleRoom ss → Returned z nv nt (take (4 * nv) vs) (take (3 * nt) ts) us ss g us′ ss′
   read-of-written {us} {us′} {ss} {ss′} {g} words h reads hv ht =
       let d = written-bytes h in
-      holds-read (written z nv nt vs ts (length before) words (d .passed)) (subst (λ (l : List ℕ). Reads l us ss g us′ ss′) (d .bytes) reads) hv ht
+      holds-read (written z nv nt vs ts (length before) words (d .passed))
+      (subst (λ (l : List ℕ). Reads l us ss g us′ ss′) (d .bytes) reads) hv ht
 
 -- ── writing what was read ──
 
@@ -108,9 +116,11 @@ module _ (bs : List ℕ) (vs : List ℤ) (ts : List ℕ) where
     front-t : take (3 * fileT bs) (over (fileTriangles bs) ts) ≡ take (3 * fileT bs) (fileTriangles bs)
     front-t = take-append-le (3 * fileT bs) (fileTriangles bs) (drop (length (fileTriangles bs)) ts) (omega (arith, triangles-length bs))
 
-    again : (size : ℕ) → length bs ≤ size → Taken (fileSizes bs) (fileV bs) (fileT bs) (over (fileVertices bs) vs) (over (fileTriangles bs) ts) size
+    again : (size : ℕ) → length bs ≤ size
+        → Taken (fileSizes bs) (fileV bs) (fileT bs) (over (fileVertices bs) vs) (over (fileTriangles bs) ts) size
     again size h =
         let l = room .laid in
+        let old = fileTriangles bs in
         record {
           sized = l .sized;
           counts = record {
@@ -119,12 +129,13 @@ module _ (bs : List ℕ) (vs : List ℤ) (ts : List ℕ) where
             room-v = omega (arith, length-append (fileVertices bs) (drop (length (fileVertices bs)) vs), vertices-length bs);
             room-t = omega (arith, length-append (fileTriangles bs) (drop (length (fileTriangles bs)) ts), triangles-length bs);
           };
-          good = first-same (fileV bs) (fileT bs) (fileTriangles bs) (over (fileTriangles bs) ts)
-              (λ i h. List·getD-append (fileTriangles bs) (drop (length (fileTriangles bs)) ts) 0 i (omega (arith, triangles-length bs))) (l .good);
+          good = first-same (fileV bs) (fileT bs) old (over old ts)
+              (λ i h. List·getD-append old (drop (length old) ts) 0 i (omega (arith, triangles-length bs))) (l .good);
           roomy = omega (arith, l .ranged .long);
         }
 
-    same-file : Bytes bs → fileBytes (contentOf (fileSizes bs) (fileV bs) (fileT bs) (over (fileVertices bs) vs) (over (fileTriangles bs) ts)) ≡ bs
+    same-file : Bytes bs
+        → fileBytes (contentOf (fileSizes bs) (fileV bs) (fileT bs) (over (fileVertices bs) vs) (over (fileTriangles bs) ts)) ≡ bs
     same-file bytes =
         rw (front-v, front-t)
         (rewritten bs bytes (ap (λ (v : Verdict). v .number) (readable-passed bs vs ts (readVerdict bs vs ts) (read-tests bs vs ts) e)))

@@ -56,7 +56,8 @@ unfolding countBytes sizeBytes trailerBytes
 halves z nv nt = refl
 
 pub trailer-long : (z : Sizes) (nv nt : ℕ) → length (trailerBytes z nv nt) ≡ 24
-trailer-long z nv nt = ap length (sym (halves z nv nt)) ∙ (length-append (countBytes nv nt) (sizeBytes z) ∙ omega (arith, counts-long nv nt, sizes-long z))
+trailer-long z nv nt =
+    ap length (sym (halves z nv nt)) ∙ (length-append (countBytes nv nt) (sizeBytes z) ∙ omega (arith, counts-long nv nt, sizes-long z))
 
 -- the whole file, part by part
 module _ (z : Sizes) (nv nt : ℕ) (vs : List ℤ) (ts : List ℕ) (room : Writable nv nt (length vs) (length ts)) where
@@ -69,14 +70,16 @@ module _ (z : Sizes) (nv nt : ℕ) (vs : List ℤ) (ts : List ℕ) (room : Writa
   parts-long : (x y t : List ℕ) → length x ≡ 16 * nv → length y ≡ 12 * nt → length t ≡ 24 → length (x ++ y ++ t) ≡ 16 * nv + 12 * nt + 24
   parts-long x y t ex ey et = omega (arith, length-append (x ++ y) t, length-append x y)
 
-  pub whole : each wordBytes (take (4 * nv) vs) ++ each (le 4) (take (3 * nt) ts) ++ trailerBytes z nv nt ≡ fileBytes (contentOf z nv nt vs ts)
+  pub whole : each wordBytes (take (4 * nv) vs) ++ each (le 4) (take (3 * nt) ts) ++ trailerBytes z nv nt
+      ≡ fileBytes (contentOf z nv nt vs ts)
   unfolding fileBytes
   whole = refl
 
   pub file-long : length (fileBytes (contentOf z nv nt vs ts)) ≡ 16 * nv + 12 * nt + 24
   file-long =
       ap length (sym whole)
-      ∙ parts-long (each wordBytes (take (4 * nv) vs)) (each (le 4) (take (3 * nt) ts)) (trailerBytes z nv nt) vertices-long triangles-long (trailer-long z nv nt)
+      ∙ parts-long (each wordBytes (take (4 * nv) vs)) (each (le 4) (take (3 * nt) ts))
+      (trailerBytes z nv nt) vertices-long triangles-long (trailer-long z nv nt)
 
   parts-stored : (l : List ℕ) {l₁ l₂ l₃ l₄ : List ℕ} (x y c s : List ℕ) → length x ≡ 16 * nv → length y ≡ 12 * nt → length c ≡ 16
       → l₁ ≡ sets l 0 x → l₂ ≡ sets l₁ (16 * nv) y → l₃ ≡ sets l₂ (16 * nv + 12 * nt) c → l₄ ≡ sets l₃ (16 * nv + 12 * nt + 16) s

@@ -15,7 +15,8 @@ use Rattle.lists.specs.Bytes.{le, unle, field}
 use Rattle.paper.specs.declared.Sizes.{Sizes}
 use Rattle.paper.specs.Lattice.{axes}
 use Rattle.paper.specs.Tests.{verdict, judge}
-use Rattle.paper.specs.File.{signed32, contentOf, trailerBytes, fileBytes, firstBad, limits, writeVerdict, trailer, fileV, fileT, fileSizes, fileVertices, fileTriangles, laidOut, fileTests}
+use Rattle.paper.specs.File.{signed32, contentOf, trailerBytes, fileBytes, firstBad, limits, writeVerdict}
+use Rattle.paper.specs.File.{trailer, fileV, fileT, fileSizes, fileVertices, fileTriangles, laidOut, fileTests}
 use Rattle.paper.proofs.Judged.{sized-axes}
 use Rattle.codec.specs.Words.{wordBytes, Words}
 use Rattle.codec.proofs.Bytes.{unle-le}
@@ -57,7 +58,8 @@ module _ (z : Sizes) (nv nt : ℕ) (vs : List ℤ) (ts : List ℕ) (room : ℕ) 
 
   number : (k at : ℕ) → trailer k bs at ≡ unle (take k (drop at (trailerBytes z nv nt)))
   number k at =
-      ap (λ (l : List ℕ). trailer k l at) is ∙ in-trailer (each wordBytes xs ++ each (le 4) ys) (trailerBytes z nv nt) (trailer-long z nv nt) k at
+      ap (λ (l : List ℕ). trailer k l at) is
+      ∙ in-trailer (each wordBytes xs ++ each (le 4) ys) (trailerBytes z nv nt) (trailer-long z nv nt) k at
 
   count-v : fileV bs ≡ nv
   unfolding fileV trailerBytes
@@ -116,7 +118,8 @@ module _ (z : Sizes) (nv nt : ℕ) (vs : List ℤ) (ts : List ℕ) (room : ℕ) 
       let n : 4 * fileV bs ≡ length xs = omega (arith, count-v, xs-long) in
       sym (vertices-are bs)
       ∙ (ap (λ (k : ℕ). map (wordAt signed32 4 bs 0) (range 0 k)) n
-      ∙ (ap (λ (l : List ℕ). map (wordAt signed32 4 l 0) (range 0 (length xs))) e ∙ read-back wordBytes 4 (λ w. refl) signed32 (pos 0) xs [] q word-back))
+      ∙ (ap (λ (l : List ℕ). map (wordAt signed32 4 l 0) (range 0 (length xs))) e
+      ∙ read-back wordBytes 4 (λ w. refl) signed32 (pos 0) xs [] q word-back))
 
   x-bytes : length (each wordBytes xs) ≡ 16 * nv
   unfolding xs
@@ -152,7 +155,12 @@ module _ (z : Sizes) (nv nt : ℕ) (vs : List ℤ) (ts : List ℕ) (room : ℕ) 
   laid : laidOut bs ≡ true
   laid =
       laid-is bs nv nt (16 * nv + 12 * nt) (12 * nt) (sym count-v) (sym count-t) (sym front) (sym back)
-      ∙ rw (within, eq-eqb (16 * nv + 12 * nt) (16 * nv + 12 * nt) refl, eq-eqb (12 * nt) (12 * nt) refl, eq-eqb (length bs) (16 * nv + 12 * nt + 24) long)
+      ∙ rw (
+        within,
+        eq-eqb (16 * nv + 12 * nt) (16 * nv + 12 * nt) refl,
+        eq-eqb (12 * nt) (12 * nt) refl,
+        eq-eqb (length bs) (16 * nv + 12 * nt + 24) long,
+      )
 
   good : firstBad (fileV bs) (fileT bs) (fileTriangles bs) ≡ fileT bs
   good = rw (count-v, count-t, triangles) (first-same nv nt ts ys y-at (t .good))

@@ -19,7 +19,8 @@ pub record Holds (bs : List ℕ) (z : Sizes) (nv nt : ℕ) (vs : List ℤ) (ts :
   pub triangles : fileTriangles bs ≡ ts
 
 -- a reader's success with these, at the front of what it was lent
-pub record Returned (z : Sizes) (nv nt : ℕ) (xs : List ℤ) (ys : List ℕ) (vs : List ℤ) (ts : List ℕ) (g : Got) (vs′ : List ℤ) (ts′ : List ℕ) : Type 0 where
+pub record Returned (z : Sizes) (nv nt : ℕ) (xs : List ℤ) (ys : List ℕ) (vs : List ℤ)
+    (ts : List ℕ) (g : Got) (vs′ : List ℤ) (ts′ : List ℕ) : Type 0 where
   pub answer : g ≡ record { number = 0; place = 0; vertices = nv; triangles = nt; sizes = z }
   pub vertices : vs′ ≡ over xs vs
   pub triangles : ts′ ≡ over ys ts

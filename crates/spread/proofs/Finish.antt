@@ -11,17 +11,18 @@ use lib.ListN.{length, getD, length-append}
 use Rattle.lists.proofs.Stores.{beyond-trans}
 use Rattle.lists.specs.Lists.{range, keep, consIf, each, isIn, Beyond}
 use Rattle.lists.specs.Reach.{Reach, here, step, reached}
-use Rattle.lists.proofs.Member.{or-cases, or-left, or-right, and-both, and-left, and-right, any-append, any-each, any-in, in-any, in-consIf, consIf-in, in-range, range-in}
+use Rattle.lists.proofs.Member.{or-cases, or-left, or-right, and-both, and-left, and-right, any-append}
+use Rattle.lists.proofs.Member.{any-each, any-in, in-any, in-consIf, consIf-in, in-range, range-in}
 use Rattle.lists.proofs.Runs.{range-join, keep-append}
 use Rattle.lists.proofs.Closure.{bool-same, keep-same, sound, complete, reach-lt, reached-kept}
 use Rattle.bits.specs.Words.{bit, On}
 use Rattle.bits.proofs.Bits.{word-is}
 use Rattle.bits.proofs.Counts.{ones-from}
 use Rattle.bits.proofs.Places.{on-zero}
-use Rattle.spread.specs.Plan.{Plan}
-use Rattle.spread.specs.Flow.{Flow}
+use Rattle.ways.specs.Plan.{Plan}
+use Rattle.ways.specs.Flow.{Flow}
 use Rattle.spread.specs.Flooded.{Empty, cell, stepsFrom, steps, marks, Closed, room, Flooded}
-use Rattle.spread.proofs.Laws.{lit}
+use Rattle.ways.proofs.Laws.{lit}
 use Rattle.spread.proofs.Going.{Ground, Settled, Turn, all-done, landed, left-across}
 
 pub cell-row : (r x : ℕ) → x < 64 → cell r x / 64 ≡ r

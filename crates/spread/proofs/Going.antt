@@ -14,11 +14,13 @@ use lib.Seq.{getD-set-same, getD-set-other}
 use Rattle.lists.proofs.Stores.{beyond-refl, beyond-trans, beyond-set}
 use Rattle.lists.specs.Lists.{Beyond}
 use Rattle.bits.specs.Words.{On, less}
-use Rattle.bits.proofs.Places.{on-bit, bit-on, on-and, and-on, on-or-left, on-or-right, or-on, on-zero, less-cases, less-on, ones-less, ones-some, ones-zero}
-use Rattle.spread.specs.Along.{Along, begun, up, down, Filled}
-use Rattle.spread.specs.Plan.{Plan}
-use Rattle.spread.specs.Flow.{Flow, flow, wait, sends, Roomy}
-use Rattle.spread.proofs.Laws.{set-cases, blank-set, lit, lit-set, lit-le, wait-elim, wait-keeps, wait-adds, wait-only, Kept, wait-room, wait-kept, sends-kept, sends-none}
+use Rattle.bits.proofs.Places.{on-bit, bit-on, on-and, and-on, on-or-left, on-or-right, or-on}
+use Rattle.bits.proofs.Places.{on-zero, less-cases, less-on, ones-less, ones-some, ones-zero}
+use Rattle.ways.specs.Along.{Along, begun, up, down, Filled}
+use Rattle.ways.specs.Plan.{Plan}
+use Rattle.ways.specs.Flow.{Flow, flow, wait, sends, Roomy}
+use Rattle.ways.proofs.Laws.{set-cases, blank-set, lit, lit-set, lit-le, wait-elim, wait-keeps}
+use Rattle.ways.proofs.Laws.{wait-adds, wait-only, Kept, wait-room, wait-kept, sends-kept, sends-none}
 
 -- row r stands below h in w
 abbrev pub Waits : List ℕ → ℕ → ℕ → Type 0

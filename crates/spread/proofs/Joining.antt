@@ -20,9 +20,9 @@ use Rattle.bits.specs.Words.{bit}
 use Rattle.bits.proofs.Bits.{bit-and, bit-of-0}
 use Rattle.rows.specs.Rows.{HasBoth, rowNo, quadAt, acrossIn, faceRow}
 use Rattle.rows.proofs.Cubes.{gate-bit, face-bit, face-is, high-is}
-use Rattle.spread.specs.Ways.{isWay, nextRow, gateAt, doorAt, besideAt, words, RowIn, planOf}
+use Rattle.ways.specs.Ways.{isWay, nextRow, gateAt, doorAt, besideAt, words, RowIn, planOf}
 use Rattle.spread.specs.Flooded.{Empty}
-use Rattle.spread.proofs.Ways.{row-lt, words-le, into}
+use Rattle.ways.proofs.Ways.{row-lt, words-le, into}
 use Rattle.spread.proofs.Visiting.{row-y, row-z, open-at, same-x, Joined}
 
 module _ (z : Sizes) (p : Place) (h : CubeIn z p) where
@@ -105,7 +105,8 @@ module _ (L : Lattice) (s : Sized (L .size)) (rows may : List ℕ) (H : HasBoth 
       let a = H .free .at (p .y) (p .z) (p .x) (h .y) (h .z) in
       let b = ap (bit m) e ∙ H .free .at (p .y) (p .z) (p .x + 1) (h .y) (h .z) in
       gate-bit q m (p .x) (omega (arith, h .x, s .x-high))
-      ∙ ap₂ _&&_ (ap₂ _&&_ b a ∙ and-comm (visitable L (faceAt p 1 .beyond)) (visitable L p)) (ap (acrossIn q) e ∙ high-is L rows (H .sides) p h)
+      ∙ ap₂ _&&_ (ap₂ _&&_ b a ∙ and-comm (visitable L (faceAt p 1 .beyond)) (visitable L p))
+      (ap (acrossIn q) e ∙ high-is L rows (H .sides) p h)
 
   module _ (p : Place) (k : ℕ) (h : CubeIn z p) (l : k < 4) where
     abbrev f : Face

@@ -15,15 +15,15 @@ use Rattle.rows.specs.declared.Quad.{Quad}
 use Rattle.bits.specs.Words.{less}
 use Rattle.bits.proofs.Bits.{shifted-one}
 use Rattle.rows.specs.Rows.{quadAt, gateRow}
-use Rattle.spread.specs.Along.{Filled}
-use Rattle.spread.specs.Plan.{Plan}
-use Rattle.spread.specs.Flow.{Flow, flow, wait, sends, Roomy}
-use Rattle.spread.specs.Ways.{gateAt, doorBy, besideBy, doorAt, besideAt, words, rowsOf, isRow, RowIn, planOf}
+use Rattle.ways.specs.Along.{Filled}
+use Rattle.ways.specs.Plan.{Plan}
+use Rattle.ways.specs.Flow.{Flow, flow, wait, sends, Roomy}
+use Rattle.ways.specs.Ways.{gateAt, doorBy, besideBy, doorAt, besideAt, words, rowsOf, isRow, RowIn, planOf}
 use Rattle.spread.specs.Flooded.{Empty, Closed, cell, room, Flooded}
-use Rattle.spread.proofs.Laws.{lit, blank-le, Kept, wait-kept}
+use Rattle.ways.proofs.Laws.{lit, blank-le, Kept, wait-kept}
 use Rattle.spread.proofs.Going.{Ground, Turn, turn-start, turn-row, turn-roomy, turn-count, turn-bound, turn-less, turn}
 use Rattle.spread.proofs.Finish.{Reached, ground, settled, finished, emptied}
-use Rattle.spread.proofs.Ways.{row-lt, row-on, row-test, row-in, rows-count, into, words-le}
+use Rattle.ways.proofs.Ways.{row-lt, row-on, row-test, row-in, rows-count, into, words-le}
 
 module _ (z : Sizes) (rows may : List ℕ) (q x : ℕ) where
   abbrev P : Plan
@@ -82,7 +82,8 @@ module _ (z : Sizes) (rows may : List ℕ) (q x : ℕ) where
       at-row = row-in z at (turn-row P (Reaches vis₀) G q x vis₀ due₀ w₀ vis due w h i seen hx e u)
 
       -- the four words around it, its gates, and what they lead to
-      module _ (four : Quad) (is : four ≡ quadAt rows (z .ny) at) (gates full : ℕ) (by : gates ≡ gateRow four (getD may at 0)) (l : full < 2 ^ 64)
+      module _ (four : Quad) (is : four ≡ quadAt rows (z .ny) at) (gates full : ℕ)
+          (by : gates ≡ gateRow four (getD may at 0)) (l : full < 2 ^ 64)
           (F : Filled (getD due at 0) gates full) where
         gate-is : gates ≡ gateAt z rows may at
         gate-is = by ∙ ap (λ (f : Quad). gateRow f (getD may at 0)) is

@@ -11,7 +11,8 @@ use lib.Arith.{digits-mod, digits-div}
 use lib.ListN.{length, getD}
 use Rattle.lists.specs.Lists.{range, consIf, keep, each, isIn, any, count}
 use Rattle.lists.specs.Reach.{Reach, here, step, reached}
-use Rattle.lists.proofs.Member.{T→eq, or-cases, or-left, or-right, and3, both3, and-both, and-left, and-right, any-append, any-each, in-any, in-consIf, consIf-in}
+use Rattle.lists.proofs.Member.{T→eq, or-cases, or-left, or-right, and3, both3, and-both, and-left}
+use Rattle.lists.proofs.Member.{and-right, any-append, any-each, in-any, in-consIf, consIf-in}
 use Rattle.lists.proofs.Every.{any-at, at-any}
 use Rattle.lists.proofs.Closure.{bool-same, sound, complete, reached-kept, reached-lt}
 use Rattle.lists.proofs.Rising.{keep-rising}
@@ -19,7 +20,8 @@ use Rattle.lists.proofs.Within.{list-in, in-list, eqb-of, in-all-test}
 use Rattle.lists.proofs.Counts.{Unique, rising-unique, count-unique, few, matched}
 use Rattle.paper.specs.declared.Sizes.{Sizes}
 use Rattle.paper.specs.declared.Place.{Place}
-use Rattle.paper.specs.Lattice.{Lattice, place, face, airAt, cubes, cubeNo, cubeAt, corner, mixed, mixedAt, inLattice, visitable, faces, faceAt, stepOver, steps, Visited, visited}
+use Rattle.paper.specs.Lattice.{Lattice, place, face, airAt, cubes, cubeNo, cubeAt, corner, mixed, mixedAt}
+use Rattle.paper.specs.Lattice.{inLattice, visitable, faces, faceAt, stepOver, steps, Visited, visited}
 use Rattle.paper.specs.Within.{Sized, CubeIn}
 use Rattle.paper.proofs.Numbers.{cube-inside, cube-back, cube-place, cube-lt}
 use Rattle.paper.proofs.Visits.{in-lattice, lattice-in, visitable-in, Exactly, visited-exactly, visited-kept, visited-lt}
@@ -27,7 +29,7 @@ use Rattle.paper.proofs.Steps.{face-shared}
 use Rattle.bits.specs.Words.{bit, On}
 use Rattle.bits.proofs.Bits.{bit-of-0, bit-lt}
 use Rattle.rows.specs.Rows.{rowNo, isOneOf, HasCubes}
-use Rattle.spread.specs.Plan.{Plan}
+use Rattle.ways.specs.Plan.{Plan}
 use Rattle.spread.specs.Flooded.{Empty, Room, cell, steps as rowSteps, marks, Flooded, Visits}
 use Rattle.spread.proofs.Finish.{cell-row, cell-place, Stepped, rose, fell, went, from-cell, by-cell, steps-lt}
 

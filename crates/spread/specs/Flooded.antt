@@ -14,8 +14,8 @@ use Rattle.paper.specs.Lattice.{Lattice, lattice, cubes, cubeAt, visitable, vis
 use Rattle.paper.specs.Room.{needed}
 use Rattle.bits.specs.Words.{bit, On}
 use Rattle.rows.specs.Rows.{HasRows, HasBoth, HasCubes}
-use Rattle.spread.specs.Plan.{Plan}
-use Rattle.spread.specs.Ways.{words, rowsOf}
+use Rattle.ways.specs.Plan.{Plan}
+use Rattle.ways.specs.Ways.{words, rowsOf}
 
 -- the first n words are there, and are 0
 pub record Empty (n : ℕ) (l : List ℕ) : Type 0 where
@@ -78,7 +78,8 @@ pub record Visits (L : Lattice) (start : ℕ) (vis : List ℕ) (count : ℕ) : T
 -- a flood of any lattice that has these rows, of sides and of cubes that may be visited, from a start that may be: nothing changes past the
 -- words and the rows of cubes
 pub record Spreads (z : Sizes) (rows may : List ℕ) (start : ℕ) (before after : Room) (count : ℕ) : Type 0 where
-  pub visits : (s : List ℤ) → let L = lattice z s in HasBoth L rows may → T (visitable L (cubeAt z start)) → Visits L start (after .vis) count
+  pub visits : (s : List ℤ) → let L = lattice z s in
+      HasBoth L rows may → T (visitable L (cubeAt z start)) → Visits L start (after .vis) count
   pub on-vis : Beyond (words z) (before .vis) (after .vis)
   pub on-waiting : Beyond (rowsOf z) (before .waiting) (after .waiting)
 
@@ -93,8 +94,8 @@ pub record Standing (L : Lattice) (rows vis : List ℕ) : Type 0 where
   pub start : ℕ
   pub stands : Stands L start rows vis
 
--- the cubes visited from cube k, where it may be visited, of any lattice that has these rows, and how many they are; no more than the needed
--- front of the waiting list changes
+-- the cubes visited from cube k, where it may be visited, of any lattice that has these rows, and how many they are; no more than the
+-- needed front of the waiting list changes
 pub record Finds (z : Sizes) (rows may : List ℕ) (k : ℕ) (vis waiting waiting′ : List ℕ) (count : ℕ) : Type 0 where
   pub stands : (s : List ℤ) → let L = lattice z s in HasBoth L rows may → T (visitable L (cubeAt z k)) → Stands L k rows vis
   pub number : (s : List ℤ) → let L = lattice z s in HasBoth L rows may → T (visitable L (cubeAt z k)) → count ≡ length (visited L k)

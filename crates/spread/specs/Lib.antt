@@ -1,6 +1,2 @@
 -- What the contracts cite.
-pub mod Along
-pub mod Plan
-pub mod Flow
-pub mod Ways
 pub mod Flooded

@@ -37,7 +37,10 @@ loadedList : Loaded → List ℕ
 loadedList r = r .number ∷ r .place ∷ r .facets ∷ []
 
 outcome : Case → List ℕ
-unfolding wroteList loadedList toBits ofBits ofFields odd isNan round units size span climb field badTriangle firstBad limits floatOf inBounds natOf scaled isImage wordOf cornerOf cornerBytes facetBytes cornerAt facetAt cornerStands facetStands cornerWords facetWords vertexCorner vertexWithin triangleBytes triangleWithin header stlBytes firstOutside stlWriteVerdict stlWrote stlCount stlFacet nineAt stlWords firstUntaken stlReadVerdict stlLoaded
+unfolding wroteList loadedList toBits ofBits ofFields odd isNan round units size span climb field badTriangle firstBad limits floatOf
+    inBounds natOf scaled isImage wordOf cornerOf cornerBytes facetBytes cornerAt facetAt cornerStands facetStands cornerWords facetWords
+    vertexCorner vertexWithin triangleBytes triangleWithin header stlBytes firstOutside stlWriteVerdict stlWrote stlCount stlFacet nineAt
+    stlWords firstUntaken stlReadVerdict stlLoaded
 outcome (gives n) = toBits binary32 (floatOf n) ∷ []
 outcome (stands b) = cond (isImage (ofBits binary32 b)) (natAbs (wordOf (ofBits binary32 b)) ∷ []) []
 outcome (writes nv nt vs ts room) = wroteList (stlWrote nv nt vs ts room)

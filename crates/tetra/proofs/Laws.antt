@@ -20,7 +20,8 @@ use Rattle.lattice.specs.Steps.{cornerStep}
 use Rattle.lattice.proofs.Laws.{corner-no, floor-few}
 use Rattle.sides.specs.Pattern.{patternAt, bitOf}
 use Rattle.sides.proofs.Laws.{pattern-bit}
-use Rattle.tetra.specs.Cut.{tetAt, tetCorner, tetCorners, tetEnds, rowBy, edgeStep, tetStep, tetSteps, rowCount, rowEdge, rowSteps, rowTriangles, trianglesBy}
+use Rattle.tetra.specs.Cut.{tetAt, tetCorner, tetCorners, tetEnds, rowBy, edgeStep, tetStep}
+use Rattle.tetra.specs.Cut.{tetSteps, rowCount, rowEdge, rowSteps, rowTriangles, trianglesBy}
 use Rattle.tetra.proofs.Tables.{tet-corner-lt, low-lt}
 
 -- ── steps are small ──
@@ -91,7 +92,8 @@ unfolding rowTriangles rowCount rowEdge
 row-triangle z base t r j h =
     let l = getD rows r [] in
     let w = three l j h in
-    getD-map-lt (λ g. tri (base + tetStep z t (g .a - 1)) (base + tetStep z t (g .b - 1)) (base + tetStep z t (g .c - 1))) l j (tri 0 0 0) (tri 0 0 0) h
+    getD-map-lt (λ g. tri (base + tetStep z t (g .a - 1)) (base + tetStep z t (g .b - 1)) (base + tetStep z t (g .c - 1))) l j
+    (tri 0 0 0) (tri 0 0 0) h
     ∙ sym (λ i. tri (base + tetStep z t (w .a i - 1)) (base + tetStep z t (w .b i - 1)) (base + tetStep z t (w .c i - 1)))
 
 -- ── one cube ──
@@ -128,7 +130,8 @@ module _ (L : Lattice) (p : Place) where
       )
 
   -- the triangles of one tetrahedron
-  part : (t : ℕ) → t < 6 → rowTriangles z base t (rowBy (patternAt L p) t) ≡ map (triEdges z p (tetAt t)) (getD rows (rowAt (airAt L) p (tetAt t)) [])
+  part : (t : ℕ) → t < 6 → rowTriangles z base t (rowBy (patternAt L p) t)
+      ≡ map (triEdges z p (tetAt t)) (getD rows (rowAt (airAt L) p (tetAt t)) [])
   unfolding rowTriangles triEdges tetEdge tetStep tetEnds
   part t h =
       let e : (j : ℕ) → base + edgeStep z (tetEnds t j) ≡ edgeNo z p (tetEnds t j) = λ j. sym (edge-by (tetEnds t j)) in
@@ -138,11 +141,15 @@ module _ (L : Lattice) (p : Place) where
   pub triangles-at : trianglesBy z base (patternAt L p) ≡ each (λ t. map (triEdges z p t) (getD rows (rowAt (airAt L) p t) [])) tets
   unfolding trianglesBy tets tetAt
   triangles-at =
-      each-same (λ t. rowTriangles z base t (rowBy (patternAt L p) t)) (λ t. map (triEdges z p (tetAt t)) (getD rows (rowAt (airAt L) p (tetAt t)) [])) (range 0 6)
-      (part 0 (omega arith), (part 1 (omega arith), (part 2 (omega arith), (part 3 (omega arith), (part 4 (omega arith), (part 5 (omega arith), tt))))))
+      each-same (λ t. rowTriangles z base t (rowBy (patternAt L p) t))
+      (λ t. map (triEdges z p (tetAt t)) (getD rows (rowAt (airAt L) p (tetAt t)) [])) (range 0 6) (
+        part 0 (omega arith),
+        (part 1 (omega arith), (part 2 (omega arith), (part 3 (omega arith), (part 4 (omega arith), (part 5 (omega arith), tt))))),
+      )
 
 -- by the cube's number
 module _ (L : Lattice) (k : ℕ) where
-  pub cube-triangles-by : trianglesBy (L .size) (7 * sampleNo (L .size) (cubeAt (L .size) k)) (patternAt L (cubeAt (L .size) k)) ≡ cubeTriangles L k
+  pub cube-triangles-by : trianglesBy (L .size) (7 * sampleNo (L .size) (cubeAt (L .size) k)) (patternAt L (cubeAt (L .size) k))
+      ≡ cubeTriangles L k
   unfolding cubeTriangles trianglesAt
   cube-triangles-by = triangles-at L (cubeAt (L .size) k)

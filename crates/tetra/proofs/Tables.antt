@@ -18,7 +18,8 @@ use Rattle.tetra.specs.Cut.{tetAt, tetCorner, tetEnds, rowCount, rowEdge
 unfoldable pub tabled : (ℕ → ℕ → ℕ) → ℕ → ℕ → List (List ℕ) → Bool
 tabled f m n l = grid m n (λ i j. eqb (getD (getD l i []) j 0) (f i j))
 
-pub tabled-at : (f : ℕ → ℕ → ℕ) (m n : ℕ) (l : List (List ℕ)) → T (tabled f m n l) → (i j : ℕ) → i < m → j < n → getD (getD l i []) j 0 ≡ f i j
+pub tabled-at : (f : ℕ → ℕ → ℕ) (m n : ℕ) (l : List (List ℕ)) → T (tabled f m n l)
+    → (i j : ℕ) → i < m → j < n → getD (getD l i []) j 0 ≡ f i j
 unfolding tabled
 tabled-at f m n l t i j hi hj = eqb→eq _ _ (grid-at m n (λ i j. eqb (getD (getD l i []) j 0) (f i j)) t i j hi hj)
 

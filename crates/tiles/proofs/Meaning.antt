@@ -117,7 +117,8 @@ module _ (L : Lattice) (start : ℕ) (rows vis : List ℕ) (H : HasRows L rows) 
   tiles-edges rule =
       tiles-visited
       ∙ (sym (map-each slot (λ k. each corners3 (cubeTriangles L k)) (visited L start))
-      ∙ ap (map slot) (sym (each-each corners3 (cubeTriangles L) (visited L start)) ∙ ap (each corners3) (sym (parts rule L start .by-edge))))
+      ∙ ap (map slot)
+      (sym (each-each corners3 (cubeTriangles L) (visited L start)) ∙ ap (each corners3) (sym (parts rule L start .by-edge))))
 
   -- three to a triangle
   pub tiles-length : (rule : Rule) → length (tilesBy S (L .size) rows vis) ≡ 3 * length (sheetOf rule L start .triangles)
@@ -140,5 +141,6 @@ module _ (L : Lattice) (start : ℕ) (rows vis : List ℕ) (H : HasRows L rows) 
       λ t a i. h (t .a) (a .a) i ∷ h (t .b) (a .b) i ∷ h (t .c) (a .c) i ∷ [] in
       tiles-edges rule
       ∙ (map-each slot corners3 ts
-      ∙ (each-same (λ t. map slot (corners3 t)) (λ t. corners3 (numbered es t)) ts (all-weak (Among es) _ of ts (sheet-among rule L s start))
+      ∙ (each-same (λ t. map slot (corners3 t)) (λ t. corners3 (numbered es t)) ts
+      (all-weak (Among es) _ of ts (sheet-among rule L s start))
       ∙ (sym (each-map corners3 (numbered es) ts) ∙ ap (each corners3) (sym (parts rule L start .triangles)))))

@@ -84,7 +84,7 @@ fn build(
     let mut words = [0u16; 64];
     let mut waiting = [0u32; 64];
     let mut slots = [0u32; 1820];
-    sheet::build(
+    builder::build(
         samples,
         sizes,
         start,
@@ -190,7 +190,7 @@ fn read_back(bytes: &[u8]) {
     let mut vertices = [0i32; 12];
     let mut triangles = [0u32; 3];
     text(b"its file: ");
-    say_got(sheetfile::read(bytes, &mut vertices, &mut triangles));
+    say_got(file_reader::read(bytes, &mut vertices, &mut triangles));
     say_sheet(&vertices, &triangles);
 }
 
@@ -205,7 +205,7 @@ fn check_both(bytes: &[u8]) {
 // Its file, written and read back, and checked.
 fn write_and_read(vertices: &[i32], triangles: &[u32]) {
     let mut bytes = [0u8; 84];
-    let w = sheetfile::write(sized(2, 2, 2), 3, 1, vertices, triangles, &mut bytes);
+    let w = file_writer::write(sized(2, 2, 2), 3, 1, vertices, triangles, &mut bytes);
     text(b"its file: ");
     say_wrote(w);
     say_trailer(&bytes);
@@ -383,7 +383,7 @@ fn short_file() {
     let mut vertices = [0i32; 12];
     let mut triangles = [0u32; 3];
     text(b"a file of 23 bytes: ");
-    say_got(sheetfile::read(bytes, &mut vertices, &mut triangles));
+    say_got(file_reader::read(bytes, &mut vertices, &mut triangles));
     text(b"a file of 23 bytes: ");
     say_verdict(check_listed(Rule::Nearest, bytes));
 }
@@ -393,7 +393,7 @@ fn altered(with: &[u8], vertices: &[i32], triangles: &[u32], nt: usize, bytes: &
     text(b"the listing's file with ");
     text(with);
     text(b": ");
-    say_wrote(sheetfile::write(sized(2, 2, 2), 3, nt, vertices, triangles, bytes));
+    say_wrote(file_writer::write(sized(2, 2, 2), 3, nt, vertices, triangles, bytes));
     text(b", ");
     say_verdict(check_listed(Rule::Nearest, bytes));
 }

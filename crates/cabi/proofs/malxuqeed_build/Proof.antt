@@ -32,14 +32,16 @@ same-length-5 c = search needs
 
 returns : tie.Need-returns
 returns c =
-    let at-build = c .before .before .before .before .before .before .before .before .before in
+    let at-words = c .before .before .before .before .before in
+    let at-build = at-words .before .before .before .before in
     let at-start-if = at-build .before .before .before .before .before .before in
     let s = at-start-if .before .before .before .before .before in
     let a = s .args in
     let before = lent (now (a .vertices)) (now (a .triangles)) (work (now (a .words)) (now (a .waiting)) (now (a .slots))) in
     let left = at-build .build .last .1 .1 .1 in
     let after = lent (left .0) (left .1 .0) (work (left .1 .1 .0) (left .1 .1 .1 .0) (left .1 .1 .1 .1 .0)) in
-    subst (λ (s : Start). Builds (lattice (a .sizes) (now (a .samples))) s before (at-build .build .result) after) (at-start-if .start-if .ensures)
+    subst (λ (s : Start). Builds (lattice (a .sizes) (now (a .samples))) s before (at-build .build .result) after)
+    (at-start-if .start-if .ensures)
     (at-build .build .ensures)
 
 pub malxuqeed-build-spec : {M : Type 1} → statement M

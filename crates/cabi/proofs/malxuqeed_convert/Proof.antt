@@ -1,8 +1,8 @@
 -- The level, then the entry point. Assumes nothing.
 use mathlib.Core.Path.{subst}
 use denote.Ref.{now}
-use Rattle.floats.specs.declared.Level.{Level}
-use Rattle.floats.specs.Convert.{Converts}
+use Rattle.greys.specs.declared.Level.{Level}
+use Rattle.greys.specs.Convert.{Converts}
 use borrow.Author.Needs.{needs}
 use Rattle.cabi.proofs.malxuqeed_convert.Statement.{statement}
 use Rattle.cabi.proofs.malxuqeed_convert.Tie as tie

@@ -15,8 +15,8 @@ use Rattle.paper.specs.Check.{sameSizes}
 use Rattle.paper.proofs.Passing.{sample-answer, sample-keeps, file-keeps}
 use Rattle.layout.proofs.Passing.{laid-out}
 use Rattle.ready.specs.Ready.{Begins}
-use Rattle.checker.specs.Checked.{lastTests}
-use Rattle.checker.proofs.Verdicts.{last-clears, kept, emptied, checked-samples, checked-file, checked-sizes, checked-last}
+use Rattle.check_any_order.specs.Checked.{lastTests}
+use Rattle.checker.proofs.Whole.{last-clears, kept, emptied, checked-samples, checked-file, checked-sizes, checked-last}
 use borrow.Author.Needs.{needs}
 use Rattle.checker.proofs.check.Statement.{statement}
 use Rattle.checker.proofs.check.Tie as tie
@@ -32,7 +32,9 @@ w s = work (now (s .args .words)) (now (s .args .waiting)) (now (s .args .slots)
 
 -- the stages of a call: from where tests 1 to 5 are passed, and from where those of the file are
 abbrev start : tie.After-begin → tie.Start
-start c = c .before .before .before .before .before .before .before
+start c =
+    let known = c .before .before .before .before .before .before in
+    known .before
 
 abbrev begun : tie.Else1 → tie.After-begin
 begun c = c .before .before .before .before
@@ -91,7 +93,8 @@ returns-2 c =
     let s = entry b in
     let e = c .before .before .tested .ensures in
     let h : judge (fileTests (bs s)) .number ≡ 0 → ⊥ = λ q. c .if2 .taken (ap (λ (v : Verdict). v .number) e ∙ q) in
-    kept (s .args .rule) (L s) (s .args .start) (bs s) (w s) _ (e ∙ sym (checked-file (s .args .rule) (L s) (s .args .start) (bs s) (lengths (w s)) (passed b) h))
+    kept (s .args .rule) (L s) (s .args .start) (bs s) (w s) _
+    (e ∙ sym (checked-file (s .args .rule) (L s) (s .args .start) (bs s) (lengths (w s)) (passed b) h))
     (ap (λ (v : Verdict). clears (v .number)) e ∙ file-keeps (bs s) h)
 
 sizes-of-requires : tie.Need-sizes-of-requires
@@ -105,8 +108,9 @@ returns-3 c =
     let f = read (c .before) in
     let b = past f in
     let s = entry b in
+    let other = sym (same (c .before)) ∙ not-true _ (c .if3 .taken) in
     kept (s .args .rule) (L s) (s .args .start) (bs s) (w s) _
-    (sym (checked-sizes (s .args .rule) (L s) (s .args .start) (bs s) (lengths (w s)) (passed b) (told f) (sym (same (c .before)) ∙ not-true _ (c .if3 .taken)))) refl
+    (sym (checked-sizes (s .args .rule) (L s) (s .args .start) (bs s) (lengths (w s)) (passed b) (told f) other)) refl
 
 slice-aggregate-check-from : tie.Need-slice-aggregate-check-from
 slice-aggregate-check-from c = search needs
@@ -137,9 +141,11 @@ returns-4 c =
     let b = past f in
     let s = entry b in
     let e = at-check .check-from .ensures .0 ∙ ap (λ (k : ℕ). judge (lastTests (s .args .rule) (L s) k (bs s))) (begins b .is) in
+    let alike = sym (same (at-if3 .before)) ∙ not-false _ (at-if3 .if3 .left) in
     emptied (s .args .rule) (L s) (s .args .start) (bs s) (w s) _
-    (e ∙ sym (checked-last (s .args .rule) (L s) (s .args .start) (bs s) (lengths (w s)) (passed b) (told f) (sym (same (at-if3 .before)) ∙ not-false _ (at-if3 .if3 .left))))
-    (ap (λ (v : Verdict). clears (v .number)) e ∙ last-clears (s .args .rule) (L s) (startOf (L s) (s .args .start)) (bs s)) _ (at-check .check-from .ensures .1)
+    (e ∙ sym (checked-last (s .args .rule) (L s) (s .args .start) (bs s) (lengths (w s)) (passed b) (told f) alike))
+    (ap (λ (v : Verdict). clears (v .number)) e ∙ last-clears (s .args .rule) (L s) (startOf (L s) (s .args .start)) (bs s)) _
+    (at-check .check-from .ensures .1)
 
 pub check-spec : {M : Type 1} → statement M
 check-spec =

@@ -37,7 +37,8 @@ same-length-3 c = search needs
 
 returns : tie.Need-returns
 returns c =
-    let at-clear-list = c .before .before .before .before .before .before .before in
+    let at-sample-count = c .before .before .before in
+    let at-clear-list = at-sample-count .before .before .before .before in
     let at-clear-words = at-clear-list .before .before .before .before in
     let at-cube-count = at-clear-words .before .before in
     let s = at-cube-count .before .before .before .before in
@@ -46,7 +47,7 @@ returns c =
     let q = at-clear-list .clear-list .ensures ∙ ap (λ (n : ℕ). cleared n (now (a .waiting))) (at-cube-count .cube-count .ensures .0) in
     let e =
     c .before .before .clear-list2 .ensures
-    ∙ ap (λ (n : ℕ). cleared (7 * n) (now (a .slots))) (c .before .before .before .sample-count .ensures .0) in
+    ∙ ap (λ (n : ℕ). cleared (7 * n) (now (a .slots))) (at-sample-count .sample-count .ensures .0) in
     λ i. work (w i) (q i) (e i)
 
 pub clear-work-spec : {M : Type 1} → statement M

@@ -50,7 +50,14 @@ returns : tie.Need-returns
 returns c =
     let s = now (c .before .before .before .before .before .args .s) in
     let at = c .before .before .before .before .before .args .at in
-    omega (arith, field-more 3 s at (at + 1) (omega arith), field-more 2 s (at + 1) (at + 2) (omega arith), field-more 1 s (at + 2) (at + 3) (omega arith), field-more 0 s (at + 3) (at + 4) (omega arith), field-none s (at + 4))
+    omega (
+      arith,
+      field-more 3 s at (at + 1) (omega arith),
+      field-more 2 s (at + 1) (at + 2) (omega arith),
+      field-more 1 s (at + 2) (at + 3) (omega arith),
+      field-more 0 s (at + 3) (at + 4) (omega arith),
+      field-none s (at + 4),
+    )
 
 pub get-u32-spec : {M : Type 1} → statement M
 get-u32-spec =

@@ -17,7 +17,8 @@ same-length c = search needs
 
 returns : tie.Need-returns
 returns c =
-    let w = c .before .before .before .bits-of .ensures ∙ ap bits32 (toZ-ofZ (c .before .before .before .before .before .before .fits .x)) in
+    let at-bits = c .before .before .before in
+    let w = at-bits .bits-of .ensures ∙ ap bits32 (toZ-ofZ (at-bits .before .before .before .fits .x)) in
     rw w at (c .before .before .put-u32 .ensures)
 
 pub put-i32-spec : {M : Type 1} → statement M

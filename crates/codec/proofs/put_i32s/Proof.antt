@@ -1,4 +1,5 @@
--- `codec::put_i32s` meets its contract. The loop's invariant: the bytes of the numbers passed are stored, and nothing else. Assumes nothing.
+-- `codec::put_i32s` meets its contract. The loop's invariant: the bytes of the numbers passed are stored, and
+-- nothing else. Assumes nothing.
 use mathlib.Core.Path.{_≡_, refl, ap, _∙_}
 use Prim.Native.Nat.{ℕ, _-_, _≤_}
 use native.Mathlib.Omega.{arith}
@@ -46,9 +47,11 @@ loop-less c = omega arith
 
 loop-again : tie.Need-loop-again Inv-loop μ-loop
 loop-again c =
-    let a = c .before .before .before .before .before .before .before .before .args in
-    let l = c .before .before .before .before .before .before .loop in
-    let r = toZ-ofZ {w = w32} {z = getD (now (a .v)) (l .i) (pos 0)} (record { sfits = c .before .before .before .put-i32-arg2 .given }) in (
+    let at-loop = c .before .before .before .before .before .before in
+    let a = at-loop .before .before .args in
+    let l = at-loop .loop in
+    let fits = c .before .before .before .put-i32-arg2 .given in
+    let r = toZ-ofZ {w = w32} {z = getD (now (a .v)) (l .i) (pos 0)} (record { sfits = fits }) in (
       omega arith,
       c .before .before .put-i32 .kept .0 ∙ l .inv .1,
       (rw r at (c .before .before .put-i32 .ensures))

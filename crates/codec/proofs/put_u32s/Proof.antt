@@ -1,4 +1,5 @@
--- `codec::put_u32s` meets its contract. The loop's invariant: the bytes of the numbers passed are stored, and nothing else. Assumes nothing.
+-- `codec::put_u32s` meets its contract. The loop's invariant: the bytes of the numbers passed are stored, and
+-- nothing else. Assumes nothing.
 use mathlib.Core.Path.{_≡_, refl, ap, _∙_}
 use Prim.Native.Nat.{ℕ, _-_, _≤_}
 use native.Mathlib.Omega.{arith}
@@ -43,8 +44,9 @@ loop-less c = omega arith
 
 loop-again : tie.Need-loop-again Inv-loop μ-loop
 loop-again c =
-    let a = c .before .before .before .before .before .before .before .before .before .args in
-    let l = c .before .before .before .before .before .before .loop in (
+    let at-loop = c .before .before .before .before .before .before in
+    let a = at-loop .before .before .before .args in
+    let l = at-loop .loop in (
       omega arith,
       c .before .before .put-u32 .kept .0 ∙ l .inv .1,
       c .before .before .put-u32 .ensures

@@ -13,7 +13,9 @@ use Rattle.codec.proofs.signed_of.Statement.{statement}
 use Rattle.codec.proofs.signed_of.Tie as tie
 
 less : (c : tie.Else1) → toZ w64 (c .before .args .b) -ℤ pos 4294967296 ≡ negsuc (4294967295 - c .before .args .b)
-less c = rw (toZ-pos w64 {n = c .before .args .b} (omega arith)) (sub-neg (c .before .args .b) 4294967296 (4294967295 - c .before .args .b) (omega arith))
+less c =
+    let b = c .before .args .b in
+    rw (toZ-pos w64 {n = b} (omega arith)) (sub-neg b 4294967296 (4294967295 - b) (omega arith))
 
 in64 : (c : tie.Else1) → SFits w64 (negsuc (4294967295 - c .before .args .b))
 in64 c = record { sfits = omega arith }

@@ -46,7 +46,8 @@ put-kind-requires c κs =
       (s .pre .0 .0, s .pre .0 .1, s .pre .0 .2, omega arith),
       (
         s .pre .1 .0,
-        drawing-room (s .args .rule) (volume s) (edgeAt (a .ks) (a .base)) 7 (a .first) (a .at) (p .kind) (p .next) (lent s) (left l) (p .inv)
+        drawing-room (s .args .rule) (volume s) (edgeAt (a .ks) (a .base)) 7 (a .first) (a .at) (p .kind) (p .next) (lent s) (left l)
+            (p .inv)
             _ (s .pre .1 .1) (omega arith),
       ),
     )
@@ -63,7 +64,8 @@ loop-again c =
     let l = k .before .before .before .before in
     let s = start l in
     let a = s .args in
-    drawing-more (s .args .rule) (volume s) (edgeAt (a .ks) (a .base)) 7 (a .first) (a .at) (l .loop .kind) (l .loop .next) (lent s) (left l) (l .loop .inv)
+    drawing-more (s .args .rule) (volume s) (edgeAt (a .ks) (a .base)) 7 (a .first) (a .at) (l .loop .kind) (l .loop .next) (lent s)
+    (left l) (l .loop .inv)
     (k .put-kind .result) _ (s .pre .1 .1 .since) (omega arith) (k .put-kind .ensures)
 
 long : (l : tie.At-loop Inv-loop μ-loop) → let s = start l in
@@ -71,7 +73,8 @@ long : (l : tie.At-loop Inv-loop μ-loop) → let s = start l in
 long l =
     let s = start l in
     let a = s .args in
-    drawing-long (s .args .rule) (volume s) (edgeAt (a .ks) (a .base)) 7 (a .first) (a .at) (l .loop .kind) (l .loop .next) (lent s) (left l) (l .loop .inv)
+    drawing-long (s .args .rule) (volume s) (edgeAt (a .ks) (a .base)) 7 (a .first) (a .at) (l .loop .kind) (l .loop .next) (lent s)
+    (left l) (l .loop .inv)
 
 same-length : tie.Need-same-length Inv-loop μ-loop
 same-length c = long (c .before) .1
@@ -85,7 +88,8 @@ returns c =
     let l = c .before in
     let s = start l in
     let a = s .args in
-    drawing-all (s .args .rule) (volume s) (edgeAt (a .ks) (a .base)) 7 (a .first) (a .at) (l .loop .kind) (l .loop .next) (lent s) (left l) (l .loop .inv)
+    drawing-all (s .args .rule) (volume s) (edgeAt (a .ks) (a .base)) 7 (a .first) (a .at) (l .loop .kind) (l .loop .next) (lent s)
+    (left l) (l .loop .inv)
     (omega arith)
 
 pub put-anchor-spec : {M : Type 1} → statement M

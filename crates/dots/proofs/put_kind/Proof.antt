@@ -68,7 +68,8 @@ returns c =
     let s = entry (t .before) in
     let a = s .args in
     let L = lattice (a .sizes) (now (a .samples)) in
-    draws-kind (a .rule) L (a .first) (a .at) (a .ks) (a .base) (a .kind) (drawn (now (a .vertices)) (now (a .slots))) _ _ (p .put-vertex .ensures)
+    draws-kind (a .rule) L (a .first) (a .at) (a .ks) (a .base) (a .kind) (drawn (now (a .vertices)) (now (a .slots))) _ _
+    (p .put-vertex .ensures)
     (f .vertex-on .ensures ∙ ap (λ (b : ℕ). vertexRecord (a .rule) L (b + a .kind)) (sym (s .pre .0 .2))) (on t)
 
 returns-2 : tie.Need-returns-2

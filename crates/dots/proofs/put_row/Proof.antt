@@ -78,7 +78,8 @@ put-place-requires c κs =
       ),
       (
         crossed-part (volume s) (edges s) (a .sizes .nx) (l .loop .x) (omega arith) (s .pre .1 .0),
-        drawing-room (s .args .rule) (volume s) (edges s) (a .sizes .nx) (a .first) (a .at) (l .loop .x) (l .loop .next) (lent s) (left l) (l .loop .inv) _
+        drawing-room (s .args .rule) (volume s) (edges s) (a .sizes .nx) (a .first) (a .at) (l .loop .x) (l .loop .next) (lent s)
+            (left l) (l .loop .inv) _
             (s .pre .1 .1) (omega arith),
       ),
     )
@@ -95,7 +96,8 @@ loop-again c =
     let l = k .before .before .before .before in
     let s = start l in
     let a = s .args in
-    drawing-more (s .args .rule) (volume s) (edges s) (a .sizes .nx) (a .first) (a .at) (l .loop .x) (l .loop .next) (lent s) (left l) (l .loop .inv)
+    drawing-more (s .args .rule) (volume s) (edges s) (a .sizes .nx) (a .first) (a .at) (l .loop .x) (l .loop .next) (lent s) (left l)
+    (l .loop .inv)
     (k .put-place .result) _ (s .pre .1 .1 .since) (omega arith) (k .put-place .ensures)
 
 long : (l : tie.At-loop Inv-loop μ-loop) → let s = start l in
@@ -103,7 +105,8 @@ long : (l : tie.At-loop Inv-loop μ-loop) → let s = start l in
 long l =
     let s = start l in
     let a = s .args in
-    drawing-long (s .args .rule) (volume s) (edges s) (a .sizes .nx) (a .first) (a .at) (l .loop .x) (l .loop .next) (lent s) (left l) (l .loop .inv)
+    drawing-long (s .args .rule) (volume s) (edges s) (a .sizes .nx) (a .first) (a .at) (l .loop .x) (l .loop .next) (lent s) (left l)
+    (l .loop .inv)
 
 same-length : tie.Need-same-length Inv-loop μ-loop
 same-length c = long (c .before) .1
@@ -117,7 +120,8 @@ returns c =
     let l = c .before in
     let s = start l in
     let a = s .args in
-    drawing-all (s .args .rule) (volume s) (edges s) (a .sizes .nx) (a .first) (a .at) (l .loop .x) (l .loop .next) (lent s) (left l) (l .loop .inv)
+    drawing-all (s .args .rule) (volume s) (edges s) (a .sizes .nx) (a .first) (a .at) (l .loop .x) (l .loop .next) (lent s) (left l)
+    (l .loop .inv)
     (omega arith)
 
 pub put-row-spec : {M : Type 1} → statement M

@@ -6,10 +6,10 @@ use denote.Ref.{now}
 use lib.Ieee.{Float}
 use lib.ListN.{length}
 use Rattle.lists.specs.Lists.{over}
-use Rattle.floats.specs.Level.{levelOf}
-use Rattle.floats.specs.Sample.{sampleOf}
-use Rattle.floats.specs.Within.{Fine}
-use Rattle.floats.proofs.Converting.{refused, fine, done}
+use Rattle.greys.specs.Level.{levelOf}
+use Rattle.greys.specs.Sample.{sampleOf}
+use Rattle.greys.specs.Within.{Fine}
+use Rattle.greys.proofs.Converting.{refused, fine, done}
 use borrow.Author.Needs.{needs}
 use Rattle.floats.proofs.convert.Statement.{statement}
 use Rattle.floats.proofs.convert.Tie as tie

@@ -4,10 +4,10 @@ use mathlib.Core.Bool.{true}
 use borrow.Author.Tests.{not-true, not-false, eq-eqb, ne-eqb}
 use denote.Ref.{now}
 use Rattle.paper.specs.Tests.{judge}
-use Rattle.floats.specs.Level.{areGreys}
-use Rattle.floats.specs.Sample.{isScale}
-use Rattle.floats.specs.Convert.{convertVerdict}
-use Rattle.floats.proofs.Converting.{convertTests, convert-tests}
+use Rattle.greys.specs.Level.{areGreys}
+use Rattle.greys.specs.Sample.{isScale}
+use Rattle.greys.specs.Convert.{convertVerdict}
+use Rattle.greys.proofs.Converting.{convertTests, convert-tests}
 use borrow.Author.Needs.{needs}
 use Rattle.floats.proofs.convertible.Statement.{statement}
 use Rattle.floats.proofs.convertible.Tie as tie

@@ -8,8 +8,8 @@ use denote.Ref.{now}
 use lib.ListN.{length, getD}
 use lib.Ieee.{nan}
 use Rattle.lists.proofs.Firsts.{first-found, first-missing}
-use Rattle.floats.specs.Level.{isGrey}
-use Rattle.floats.specs.Convert.{firstBad}
+use Rattle.greys.specs.Level.{isGrey}
+use Rattle.greys.specs.Convert.{firstBad}
 use Rattle.floats.proofs.first_bad.Statement.{statement}
 use Rattle.floats.proofs.first_bad.Tie as tie
 

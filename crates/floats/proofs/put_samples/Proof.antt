@@ -10,8 +10,8 @@ use mir.Syntax.{w16}
 use mir.Facts.{toZ-ofZ}
 use lib.ListN.{length, take, drop, length-set}
 use lib.Ieee.{nan}
-use Rattle.floats.specs.Sample.{sampleOf}
-use Rattle.floats.proofs.Converting.{store-more, store-all}
+use Rattle.greys.specs.Sample.{sampleOf}
+use Rattle.greys.proofs.Converting.{store-more, store-all}
 use Rattle.floats.proofs.put_samples.Statement.{statement}
 use Rattle.floats.proofs.put_samples.Tie as tie
 

@@ -18,14 +18,25 @@ axis-passes-requires-2 c κs = search needs
 
 returns-2 : tie.Need-returns-2
 unfolding axes
-returns-2 c = rw (sym (c .before .before .before .axis-passes .ensures) ∙ not-false _ (c .before .before .if1 .left), sym (c .before .axis-passes2 .ensures) ∙ not-true _ (c .if2 .taken))
+returns-2 c =
+    let first = c .before .before in
+    rw (
+      sym (first .before .axis-passes .ensures) ∙ not-false _ (first .if1 .left),
+      sym (c .before .axis-passes2 .ensures) ∙ not-true _ (c .if2 .taken),
+    )
 
 axis-passes-requires-3 : tie.Need-axis-passes-requires-3
 axis-passes-requires-3 c κs = search needs
 
 returns-3 : tie.Need-returns-3
 unfolding axes
-returns-3 c = rw (sym (c .before .before .before .before .axis-passes .ensures) ∙ not-false _ (c .before .before .before .if1 .left), sym (c .before .before .axis-passes2 .ensures) ∙ not-false _ (c .before .if2 .left)) (c .axis-passes3 .ensures)
+returns-3 c =
+    let second = c .before in
+    let first = second .before .before in
+    rw (
+      sym (first .before .axis-passes .ensures) ∙ not-false _ (first .if1 .left),
+      sym (second .before .axis-passes2 .ensures) ∙ not-false _ (second .if2 .left),
+    ) (c .axis-passes3 .ensures)
 
 pub axes-pass-spec : {M : Type 1} → statement M
 axes-pass-spec =

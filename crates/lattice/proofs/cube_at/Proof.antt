@@ -23,8 +23,10 @@ place-of-requires c κs =
 returns : tie.Need-returns
 unfolding cubeAt
 returns c =
-    let s = c .before .before .before in
-    (c .place-of .ensures, subst (CubeIn (s .args .sizes)) (sym (c .place-of .ensures)) (cube-inside _ (s .pre .0) (s .args .k) (s .pre .1)))
+    let s = c .before .before .before in (
+      c .place-of .ensures,
+      subst (CubeIn (s .args .sizes)) (sym (c .place-of .ensures)) (cube-inside _ (s .pre .0) (s .args .k) (s .pre .1)),
+    )
 
 pub cube-at-spec : {M : Type 1} → statement M
 cube-at-spec = tie.close (tie.spec sub-w sub-h place-of-requires returns)

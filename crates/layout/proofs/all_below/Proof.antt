@@ -44,7 +44,9 @@ still-below-requires : tie.Need-still-below-requires Inv-loop μ-loop
 still-below-requires c κs = search needs
 
 add-i : tie.Need-add-i Inv-loop μ-loop
-add-i c = omega (arith, c .before .before .loop-test .taken, c .before .before .before .before .before .pre .0 .most-t, c .before .before .before .before .before .pre .2)
+add-i c =
+    let s = c .before .before .before .before .before in
+    omega (arith, c .before .before .loop-test .taken, s .pre .0 .most-t, s .pre .2)
 
 loop-less : tie.Need-loop-less Inv-loop μ-loop
 loop-less c = omega (arith, c .before .before .loop-test .taken)
@@ -55,7 +57,8 @@ loop-again c =
     let s = c .before .before .before .before .before in
     let w = c .before .triangle-word in (
       omega (arith, c .before .before .loop-test .taken),
-      λ e. let b = c .still-below .ensures e in one-more (fileTriangles (now (s .args .bytes))) (s .args .nv) (l .i) (w .result) (w .ensures) (b .1) (l .inv .1 (b .0)),
+      λ e. let b = c .still-below .ensures e in
+          one-more (fileTriangles (now (s .args .bytes))) (s .args .nv) (l .i) (w .result) (w .ensures) (b .1) (l .inv .1 (b .0)),
     )
 
 returns : tie.Need-returns Inv-loop μ-loop

@@ -16,7 +16,8 @@ get-i32-requires c κs = search needs
 returns : tie.Need-returns
 returns c =
     let a = c .before .before .args in
-    toZ-ofZ (record { sfits = c .get-i32 .ok }) ∙ (c .get-i32 .ensures ∙ sym (vertex-at (now (a .bytes)) (a .i) (c .before .before .pre .1)))
+    toZ-ofZ (record { sfits = c .get-i32 .ok })
+    ∙ (c .get-i32 .ensures ∙ sym (vertex-at (now (a .bytes)) (a .i) (c .before .before .pre .1)))
 
 pub record-word-spec : {M : Type 1} → statement M
 record-word-spec = tie.close (tie.spec mul-get-i32 get-i32-requires returns)

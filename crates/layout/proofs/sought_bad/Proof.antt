@@ -18,14 +18,16 @@ abbrev μ-loop : tie.MeasureT-loop
 
 -- the test that a turn makes is the definition's
 judged : (c : tie.After-any-from Inv-loop μ-loop)
-    → let a = c .before .before .before .before .before .before .before .args in
-    c .any-from .result ≡ badTriangle (a .nv) (fileTriangles (now (a .bytes))) (c .before .before .before .before .before .loop .i)
+    → let l = c .before .before .before .before .before in
+    let a = l .before .before .args in
+    c .any-from .result ≡ badTriangle (a .nv) (fileTriangles (now (a .bytes))) (l .loop .i)
 judged c =
-    let a = c .before .before .before .before .before .before .before .args in
-    let i = c .before .before .before .before .before .loop .i in
+    let l = c .before .before .before .before .before in
+    let a = l .before .before .args in
+    let w = c .before in
     c .any-from .ensures
-    ∙ (rw (c .before .triangle-word3 .ensures, c .before .before .triangle-word2 .ensures, c .before .before .before .triangle-word .ensures)
-    (sym (bad-is (a .nv) (fileTriangles (now (a .bytes))) i)))
+    ∙ (rw (w .triangle-word3 .ensures, w .before .triangle-word2 .ensures, w .before .before .triangle-word .ensures)
+    (sym (bad-is (a .nv) (fileTriangles (now (a .bytes))) (l .loop .i))))
 
 loop-holds : tie.Need-loop-holds Inv-loop μ-loop
 loop-holds c = (omega arith, below-none _)

@@ -47,9 +47,13 @@ last : (c : tie.Else4)
     → let bs = bytes₄ c in
     judge (fileTests bs) ≡ judge (indexTest (fileV bs) (fileT bs) (fileTriangles bs) ∷ [])
 unfolding fileTests
-last c = rw (long (c .before .before .before .before .before .before .before), marked (c .before .before .before .before .before), sized (c .before .before), laid c)
+last c =
+    let c₃ = c .before .before in
+    let c₂ = c₃ .before .before .before in
+    rw (long (c₂ .before .before), marked c₂, sized c₃, laid c)
 
-found : (c : tie.After-first-bad-in) → let bs = bytes₄ (c .before .before .before) in c .first-bad-in .result ≡ firstBad (fileV bs) (fileT bs) (fileTriangles bs)
+found : (c : tie.After-first-bad-in) → let bs = bytes₄ (c .before .before .before) in
+    c .first-bad-in .result ≡ firstBad (fileV bs) (fileT bs) (fileTriangles bs)
 found c = c .first-bad-in .ensures ∙ rw (c .before .vertex-count .ensures .0, c .before .before .triangle-count .ensures .0)
 
 returns : tie.Need-returns
@@ -82,7 +86,9 @@ returns-4 : tie.Need-returns-4
 unfolding fileTests
 returns-4 c =
     let bad = fails (c .before .laid-out .ensures) (c .if4 .taken) in
-    rw (long (c .before .before .before .before .before .before .before), marked (c .before .before .before .before .before), sized (c .before .before), bad)
+    let c₃ = c .before .before in
+    let c₂ = c₃ .before .before .before in
+    rw (long (c₂ .before .before), marked c₂, sized c₃, bad)
 
 triangle-count-requires : tie.Need-triangle-count-requires
 triangle-count-requires c κs = search needs

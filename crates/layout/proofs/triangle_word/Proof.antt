@@ -22,8 +22,10 @@ get-u32-requires c κs = search needs
 
 returns : tie.Need-returns
 returns c =
-    let a = c .before .before .args in
-    c .get-u32 .ensures ∙ (ap (λ (n : ℕ). field 4 (now (a .bytes)) (16 * n + 4 * a .i)) (c .before .before .pre .1) ∙ sym (triangle-at (now (a .bytes)) (a .i) (c .before .before .pre .2)))
+    let s = c .before .before in
+    let a = s .args in
+    c .get-u32 .ensures
+    ∙ (ap (λ (n : ℕ). field 4 (now (a .bytes)) (16 * n + 4 * a .i)) (s .pre .1) ∙ sym (triangle-at (now (a .bytes)) (a .i) (s .pre .2)))
 
 pub triangle-word-spec : {M : Type 1} → statement M
 triangle-word-spec =

@@ -17,7 +17,8 @@ passed : (c : tie.Else1) → Readable (now (c .before .before .before .args .inp
 passed c = readable _ (sym (c .before .tested .ensures) ∙ c .if1 .left)
 
 -- as many samples as the sizes say, which the room holds
-count : (c : tie.After-sample-count) → c .sample-count .result ≡ samples (listedSizes (now (c .before .before .before .before .before .args .input)))
+count : (c : tie.After-sample-count) → let a = c .before .before .before .before .before .args in
+    c .sample-count .result ≡ samples (listedSizes (now (a .input)))
 count c = c .sample-count .ensures .0 ∙ ap samples (c .before .sizes-of .ensures)
 
 fits : (c : tie.After-get-i16s) → c .before .before .sample-count .result ≤ length (c .get-i16s .last .1 .1 .0)
@@ -31,7 +32,8 @@ tested-requires c κs = search needs
 returns : tie.Need-returns
 returns c =
     let a = c .before .before .before .args in
-    list-refused (now (a .input)) (now (a .vertices)) (now (a .triangles)) (c .before .tested .result) (c .before .tested .ensures) (c .if1 .taken)
+    let t = c .before .tested in
+    list-refused (now (a .input)) (now (a .vertices)) (now (a .triangles)) (t .result) (t .ensures) (c .if1 .taken)
 
 sizes-of-requires : tie.Need-sizes-of-requires
 sizes-of-requires c κs = omega (arith, passed c .long)
@@ -63,9 +65,10 @@ returns-2 c =
     let n = g .before .before in
     let t = n .before .before in
     let a = t .before .before .before .args in
-    list-done (now (a .input)) (now (a .vertices)) (now (a .triangles)) (search needs) (search needs) (sym (t .before .tested .ensures) ∙ t .if1 .left)
-    _ (n .before .sizes-of .ensures) _
-    (ap (take (n .sample-count .result)) (g .get-i16s .ensures) ∙ samples-are (now (a .input)) (n .sample-count .result) _ (count n) (omega (arith, count n, passed t .few)))
+    list-done (now (a .input)) (now (a .vertices)) (now (a .triangles)) (search needs) (search needs)
+    (sym (t .before .tested .ensures) ∙ t .if1 .left) _ (n .before .sizes-of .ensures) _
+    (ap (take (n .sample-count .result)) (g .get-i16s .ensures)
+    ∙ samples-are (now (a .input)) (n .sample-count .result) _ (count n) (omega (arith, count n, passed t .few)))
     _ (c .mesh .ensures .0) _ (c .mesh .ensures .1) _ (c .mesh .ensures .2)
 
 pub list-spec : {M : Type 1} → statement M

@@ -13,7 +13,9 @@ use Rattle.lister.proofs.signed_of.Statement.{statement}
 use Rattle.lister.proofs.signed_of.Tie as tie
 
 less : (c : tie.Else1) → toZ w32 (c .before .args .b) -ℤ pos 65536 ≡ negsuc (65535 - c .before .args .b)
-less c = rw (toZ-pos w32 {n = c .before .args .b} (omega arith)) (sub-neg (c .before .args .b) 65536 (65535 - c .before .args .b) (omega arith))
+less c =
+    let b = c .before .args .b in
+    rw (toZ-pos w32 {n = b} (omega arith)) (sub-neg b 65536 (65535 - b) (omega arith))
 
 in32 : (c : tie.Else1) → SFits w32 (negsuc (65535 - c .before .args .b))
 in32 c = record { sfits = omega arith }

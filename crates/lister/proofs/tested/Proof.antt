@@ -41,7 +41,9 @@ room : (c : tie.After-in-room) → c .in-room .result ≡ listable (listedSizes 
 room c = c .in-room .ensures ∙ ap listable (c .before .before .before .sizes-of .ensures)
 
 count : (c : tie.After-sample-count) → 6 + 2 * c .sample-count .result ≡ 6 + 2 * samples (listedSizes (bytes₄ c))
-count c = ap (λ (n : ℕ). 6 + 2 * n) (c .sample-count .ensures .0 ∙ ap samples (c .before .before .before .before .before .sizes-of .ensures))
+count c =
+    let at-sizes = c .before .before .before .before .before in
+    ap (λ (n : ℕ). 6 + 2 * n) (c .sample-count .ensures .0 ∙ ap samples (at-sizes .sizes-of .ensures))
 
 number-is : (bs : List ℕ) (n : ℕ) → judge (listingTests bs) ≡ verdict n 0 → n ≡ listingNumber bs
 unfolding listingNumber
@@ -70,7 +72,8 @@ returns-3 : tie.Need-returns-3
 unfolding listingTests
 returns-3 c =
     let a = c .before .before in
-    number-is (bytes₃ (c .before)) 1 (rw (long (a .before .before .before), passes (fit (a .before)) (a .if2 .left), fails (room (c .before)) (c .if3 .taken)))
+    let fitting = passes (fit (a .before)) (a .if2 .left) in
+    number-is (bytes₃ (c .before)) 1 (rw (long (a .before .before .before), fitting, fails (room (c .before)) (c .if3 .taken)))
 
 sample-count-requires : tie.Need-sample-count-requires
 sample-count-requires c κs =

@@ -11,8 +11,8 @@ use Rattle.paper.specs.Room.{work}
 use Rattle.paper.specs.Within.{Full}
 use Rattle.rows.specs.Rows.{HasRows, HasFree, HasBoth, sideRows, fillRows, freeRows}
 use Rattle.rows.proofs.Cubes.{made-rows, made-free}
-use Rattle.spread.proofs.Ways.{words-le}
-use Rattle.pieces.specs.Pieces.{Lent, lent}
+use Rattle.ways.proofs.Ways.{words-le}
+use Rattle.tray.specs.Pieces.{Lent, lent}
 use Rattle.pieces.proofs.Answers.{refused, settled}
 use borrow.Author.Needs.{needs}
 use Rattle.pieces.proofs.find.Statement.{statement}

@@ -1,7 +1,7 @@
 -- The crossed cubes, a pass over them, tests 5 and 20, and a clear. Assumes nothing.
 use native.Mathlib.Omega.{arith}
 use denote.Ref.{now}
-use Rattle.spread.proofs.Ways.{words-le}
+use Rattle.ways.proofs.Ways.{words-le}
 use Rattle.spread.proofs.Joining.{fresh}
 use Rattle.pieces.proofs.Answers.{fit-begun, on-waiting, on-slots, count-few, finds-none, finds-some}
 use borrow.Author.Needs.{needs}

@@ -27,9 +27,12 @@ size {v} f = natAbs-le v (f .sfits)
 
 -- what the machine has in the difference
 difference : (c : tie.Then1) → pos 0 -ℤ toZ w64 (ofZ w64 (toZ w32 (ofZ w32 (c .before .args .v)))) ≡ pos (natAbs (c .before .args .v))
-difference c = rw (widened (c .before .fits .v) w64 tt) (negated (c .before .args .v) (rw (toZ-ofZ (c .before .fits .v)) at (c .if1 .taken)))
+difference c =
+    let s = c .before in
+    rw (widened (s .fits .v) w64 tt) (negated (s .args .v) (rw (toZ-ofZ (s .fits .v)) at (c .if1 .taken)))
 
-stored : (c : tie.Then1) → toZ w64 (ofZ w64 (pos 0 -ℤ toZ w64 (ofZ w64 (toZ w32 (ofZ w32 (c .before .args .v)))))) ≡ pos (natAbs (c .before .args .v))
+stored : (c : tie.Then1) → let v = c .before .args .v in
+    toZ w64 (ofZ w64 (pos 0 -ℤ toZ w64 (ofZ w64 (toZ w32 (ofZ w32 v))))) ≡ pos (natAbs v)
 stored c = rw (difference c) (toZ-pos w64 {n = natAbs (c .before .args .v)} (omega (arith, size (c .before .fits .v))))
 
 cast-result : tie.Need-cast-result

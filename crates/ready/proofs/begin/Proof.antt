@@ -29,7 +29,9 @@ unfolding sampleTests
 returns c =
     let s = c .before .shape .ensures in
     record {
-      answer = s .answer ∙ sym (ap (λ (v : Verdict). v .number) (judge-stop (shapeTests _ _) (startTests _ _) (λ e. c .if1 .taken (s .answer ∙ e))));
+      answer =
+          s .answer
+          ∙ sym (ap (λ (v : Verdict). v .number) (judge-stop (shapeTests _ _) (startTests _ _) (λ e. c .if1 .taken (s .answer ∙ e))));
       begins = λ e. absurd (c .if1 .taken e);
     }
 

@@ -28,7 +28,8 @@ named-cube-requires c κs = search needs
 returns : tie.Need-returns
 returns c =
     let a = c .before .before .before .before .before .args in
-    subst (λ (s : Start). ChosenBy (a .sizes) (now (a .rows)) (now (a .may)) s (c .lowest-cube .result)) (sym (c .before .enum-told .given .1)) (c .lowest-cube .ensures)
+    subst (λ (s : Start). ChosenBy (a .sizes) (now (a .rows)) (now (a .may)) s (c .lowest-cube .result))
+    (sym (c .before .enum-told .given .1)) (c .lowest-cube .ensures)
 
 returns-2 : tie.Need-returns-2
 returns-2 c =
@@ -39,7 +40,8 @@ returns-2 c =
 returns-3 : tie.Need-returns-3
 returns-3 c =
     let a = c .before .before .before .before .before .before .args in
-    subst (λ (s : Start). ChosenBy (a .sizes) (now (a .rows)) (now (a .may)) s (c .named-cube .result)) (sym (c .before .before .start .given .1)) (c .named-cube .ensures)
+    subst (λ (s : Start). ChosenBy (a .sizes) (now (a .rows)) (now (a .may)) s (c .named-cube .result))
+    (sym (c .before .before .start .given .1)) (c .named-cube .ensures)
 
 pub choose-spec : {M : Type 1} → statement M
 choose-spec =

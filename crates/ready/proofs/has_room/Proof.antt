@@ -24,7 +24,13 @@ mul-result c = search needs
 
 returns-3 : tie.Need-returns-3
 unfolding roomy
-returns-3 c = rw (← c .before .before .before .cube-count .ensures .0, le-leb _ _ (c .before .before .if1 .left), le-leb _ _ (c .before .if2 .left), ← c .sample-count .ensures .0)
+returns-3 c =
+    rw (
+      ← c .before .before .before .cube-count .ensures .0,
+      le-leb _ _ (c .before .before .if1 .left),
+      le-leb _ _ (c .before .if2 .left),
+      ← c .sample-count .ensures .0,
+    )
 
 pub has-room-spec : {M : Type 1} → statement M
 has-room-spec =

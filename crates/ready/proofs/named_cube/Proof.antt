@@ -44,7 +44,11 @@ returns-2 c = record {
 }
 
 cube-no-requires : tie.Need-cube-no-requires
-cube-no-requires c κs = (c .before .before .before .before .before .before .pre .0, in-lattice _ _ (eq→T (sym (c .before .before .before .is-cube .ensures) ∙ not-false _ (c .before .before .if1 .left))))
+cube-no-requires c κs =
+    let at-if1 = c .before .before in (
+      at-if1 .before .before .before .before .pre .0,
+      in-lattice _ _ (eq→T (sym (at-if1 .before .is-cube .ensures) ∙ not-false _ (at-if1 .if1 .left))),
+    )
 
 returns-3 : tie.Need-returns-3
 unfolding startTests

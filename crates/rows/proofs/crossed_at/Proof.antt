@@ -2,8 +2,7 @@
 use mathlib.Core.Path.{_∙_}
 use denote.Ref.{now}
 use Rattle.paper.specs.Lattice.{lattice}
-use Rattle.rows.proofs.Cubes.{crossed-is}
-use Rattle.rows.proofs.Search.{row-bit}
+use Rattle.rows.proofs.Cubes.{crossed-is, row-bit}
 use borrow.Author.Needs.{needs}
 use Rattle.rows.proofs.crossed_at.Statement.{statement}
 use Rattle.rows.proofs.crossed_at.Tie as tie

@@ -8,12 +8,13 @@ use lib.ListN.{getD, set, length-set}
 use denote.Ref.{now}
 use Rattle.lists.proofs.Stores.{beyond-trans}
 use Rattle.lists.specs.Lists.{Beyond}
-use Rattle.spread.specs.Flow.{flow, Roomy}
-use Rattle.spread.specs.Ways.{words, rowsOf, isRow, RowIn, planOf}
+use Rattle.ways.specs.Flow.{flow, Roomy}
+use Rattle.ways.specs.Ways.{words, rowsOf, isRow, RowIn, planOf}
 use Rattle.spread.specs.Flooded.{Empty, cell, room, Flooded}
-use Rattle.spread.proofs.Laws.{lit}
-use Rattle.spread.proofs.Ways.{row-lt, row-quad, row-le, rows-some, words-le}
-use Rattle.spread.proofs.Turns.{Flooding, first-kept, flooding-start, at-row, at-roomy, seen-le, less-left, flooding-more, flooding-done, due-done}
+use Rattle.ways.proofs.Laws.{lit}
+use Rattle.ways.proofs.Ways.{row-lt, row-quad, row-le, rows-some, words-le}
+use Rattle.spread.proofs.Turns.{Flooding, first-kept, flooding-start, at-row, at-roomy}
+use Rattle.spread.proofs.Turns.{seen-le, less-left, flooding-more, flooding-done, due-done}
 use Rattle.spread.proofs.flood.Statement.{statement}
 use Rattle.spread.proofs.flood.Tie as tie
 
@@ -31,8 +32,11 @@ waited c = c .before .before .before .before .before
 abbrev shifted : tie.After-wait-row Inv-loop μ-loop → tie.After-wait-row-arg Inv-loop μ-loop
 shifted c = c .before .before
 
+abbrev entry : tie.After-wait-row-arg Inv-loop μ-loop → tie.Start Inv-loop μ-loop
+entry c = c .before .before .before .before .before .before
+
 abbrev begun : tie.After-wait-row Inv-loop μ-loop → tie.Start Inv-loop μ-loop
-begun c = shifted c .before .before .before .before .before .before
+begun c = entry (shifted c)
 
 abbrev start : tie.At-loop Inv-loop μ-loop → tie.Start Inv-loop μ-loop
 start c = begun (waited c)
@@ -48,7 +52,8 @@ at l = getD (l .before .loop .waiting) (l .before .loop .h - 1) 0
 popped : (l : tie.In-loop Inv-loop μ-loop) → RowIn (start (l .before) .args .z) (at l)
 popped l =
     let s = start (l .before) in
-    at-row (s .args .z) (now (s .args .rows)) (now (s .args .may)) (s .args .row) (s .args .x) (s .pre .0 .0) (s .pre .0 .1) (s .pre .0 .2) _ (s .pre .1 .0)
+    let a = s .args in
+    at-row (a .z) (now (a .rows)) (now (a .may)) (a .row) (a .x) (s .pre .0 .0) (s .pre .0 .1) (s .pre .0 .2) _ (s .pre .1 .0)
     _ _ _ _ _ _ _ _
     (some l) (l .before .loop .inv)
 
@@ -58,8 +63,11 @@ popped-lt l =
     (row-lt (s .args .z) (at l) (popped l), omega (arith, row-le (s .args .z) (at l) (s .pre .0 .0) (popped l)))
 
 -- the row is filled
+abbrev at-quad : tie.After-filled Inv-loop μ-loop → tie.After-quad-at Inv-loop μ-loop
+at-quad c = c .before .before .before .before .before
+
 abbrev inside : tie.After-filled Inv-loop μ-loop → tie.In-loop Inv-loop μ-loop
-inside c = c .before .before .before .before .before .before .before
+inside c = at-quad c .before .before
 
 full-lt : (c : tie.After-filled Inv-loop μ-loop) → c .filled .result < 2 ^ 64
 full-lt c = omega (arith, c .filled .ok)
@@ -70,41 +78,42 @@ roomy : (c : tie.After-filled Inv-loop μ-loop) → let l = inside c in
 roomy c =
     let l = inside c in
     let s = start (l .before) in
-    at-roomy (s .args .z) (now (s .args .rows)) (now (s .args .may)) (s .args .row) (s .args .x) (s .pre .0 .0) (s .pre .0 .1) (s .pre .0 .2) _ (s .pre .1 .0)
+    let a = s .args in
+    at-roomy (a .z) (now (a .rows)) (now (a .may)) (a .row) (a .x) (s .pre .0 .0) (s .pre .0 .1) (s .pre .0 .2) _ (s .pre .1 .0)
     _ _ _ _ _ _ _ _
-    (some l) (l .before .loop .inv) _ (c .before .before .before .before .before .quad-at .ensures) _ _ (c .before .gate-row .ensures) (full-lt c)
+    (some l) (l .before .loop .inv) _ (at-quad c .quad-at .ensures) _ _ (c .before .gate-row .ensures) (full-lt c)
     (c .filled .ensures)
 
 -- what is so where the loop is left
-left : (c : tie.After-loop Inv-loop μ-loop) → let s = start (c .before) in
-    let z = s .args .z in
+left : (c : tie.After-loop Inv-loop μ-loop) → let a = start (c .before) .args in
+    let z = a .z in
     let l = c .before .loop in
-    Flooded (planOf z (now (s .args .rows)) (now (s .args .may))) (cell (s .args .row) (s .args .x)) (room (now (s .args .vis)) (now (s .args .waiting)))
+    Flooded (planOf z (now (a .rows)) (now (a .may))) (cell (a .row) (a .x)) (room (now (a .vis)) (now (a .waiting)))
     (room (l .vis) (l .waiting)) (l .seen)
-    × Empty (words z) (l .due) × Beyond (words z) (now (s .args .due)) (l .due)
+    × Empty (words z) (l .due) × Beyond (words z) (now (a .due)) (l .due)
 left c =
     let w = waited (c .before) in
     let s = begun w in
+    let a = s .args in
     let l = c .before .loop in
-    let z = s .args .z in
-    let k = first-kept (s .args .z) (now (s .args .rows)) (now (s .args .may)) (s .args .row) (s .args .x) (s .pre .0 .0) (s .pre .0 .1) (s .pre .0 .2)
-    (now (s .args .due)) (now (s .args .waiting)) _ _ (s .pre .1 .1) (s .pre .1 .2) (w .wait-row .ensures) in
+    let k = first-kept (a .z) (now (a .rows)) (now (a .may)) (a .row) (a .x) (s .pre .0 .0) (s .pre .0 .1) (s .pre .0 .2)
+    (now (a .due)) (now (a .waiting)) _ _ (s .pre .1 .1) (s .pre .1 .2) (w .wait-row .ensures) in
     let e : l .h ≡ 0 = omega arith in (
-      flooding-done (s .args .z) (now (s .args .rows)) (now (s .args .may)) (s .args .row) (s .args .x) (s .pre .0 .0) (s .pre .0 .1) (s .pre .0 .2)
-          (now (s .args .vis)) (s .pre .1 .0) _ (now (s .args .waiting)) _ (l .vis) (flow (l .due) (l .waiting) (l .h)) (l .seen) e (l .inv)
+      flooding-done (a .z) (now (a .rows)) (now (a .may)) (a .row) (a .x) (s .pre .0 .0) (s .pre .0 .1) (s .pre .0 .2)
+          (now (a .vis)) (s .pre .1 .0) _ (now (a .waiting)) _ (l .vis) (flow (l .due) (l .waiting) (l .h)) (l .seen) e (l .inv)
           (k .on-waiting),
-      due-done (s .args .z) (now (s .args .rows)) (now (s .args .may)) (s .args .row) (s .args .x) (s .pre .0 .0) (s .pre .0 .1) (s .pre .0 .2)
-          (now (s .args .vis)) (s .pre .1 .0) _ (now (s .args .waiting)) _ (l .vis) (flow (l .due) (l .waiting) (l .h)) (l .seen) e (l .inv)
+      due-done (a .z) (now (a .rows)) (now (a .may)) (a .row) (a .x) (s .pre .0 .0) (s .pre .0 .1) (s .pre .0 .2)
+          (now (a .vis)) (s .pre .1 .0) _ (now (a .waiting)) _ (l .vis) (flow (l .due) (l .waiting) (l .h)) (l .seen) e (l .inv)
           (k .on-waiting),
       beyond-trans (k .on-due) (l .inv .on-due),
     )
 
 shl-wait-row : tie.Need-shl-wait-row Inv-loop μ-loop
-shl-wait-row c = omega (arith, c .before .before .before .before .before .before .before .pre .0 .2)
+shl-wait-row c = omega (arith, entry (c .before) .pre .0 .2)
 
 wait-row-requires : tie.Need-wait-row-requires Inv-loop μ-loop
 wait-row-requires c κs =
-    let s = c .before .before .before .before .before .before .before in
+    let s = entry (c .before) in
     let l = row-lt (s .args .z) (s .args .row) (s .pre .0 .1) in (
       omega (arith, s .pre .1 .1 .fit),
       omega (arith, words-le (s .args .z) (s .pre .0 .0)),
@@ -116,8 +125,9 @@ loop-holds : tie.Need-loop-holds Inv-loop μ-loop
 loop-holds c =
     let w = c .before .before .before .before in
     let s = begun w in
-    flooding-start (s .args .z) (now (s .args .rows)) (now (s .args .may)) (s .args .row) (s .args .x) (s .pre .0 .0) (s .pre .0 .1) (s .pre .0 .2)
-    (now (s .args .vis)) (now (s .args .due)) (now (s .args .waiting)) _ (s .pre .1 .0) (s .pre .1 .1) (s .pre .1 .2)
+    let a = s .args in
+    flooding-start (a .z) (now (a .rows)) (now (a .may)) (a .row) (a .x) (s .pre .0 .0) (s .pre .0 .1) (s .pre .0 .2)
+    (now (a .vis)) (now (a .due)) (now (a .waiting)) _ (s .pre .1 .0) (s .pre .1 .1) (s .pre .1 .2)
     (w .wait-row .ensures)
 
 sub-h : tie.Need-sub-h Inv-loop μ-loop
@@ -187,7 +197,7 @@ add-seen c =
       c .ones .ensures .0,
       seen-le (s .args .z) (now (s .args .rows)) (now (s .args .may)) (s .args .row) (s .args .x) (s .pre .0 .0) (s .pre .0 .1)
           (s .pre .0 .2) _ (s .pre .1 .0) _ _ _ _ _ _ _ _ (some l) (l .before .loop .inv) _
-          (f .before .before .before .before .before .quad-at .ensures) _ _
+          (at-quad f .quad-at .ensures) _ _
           (f .before .gate-row .ensures) (full-lt f)
           (f .filled .ensures),
     )
@@ -208,7 +218,7 @@ loop-less c =
     let s = start (l .before) in
     less-left (s .args .z) (now (s .args .rows)) (now (s .args .may)) (s .args .row) (s .args .x) (s .pre .0 .0) (s .pre .0 .1)
     (s .pre .0 .2) _ (s .pre .1 .0) _ _ _ _ _ _ _ _ (some l) (l .before .loop .inv) _
-    (f .before .before .before .before .before .quad-at .ensures) _ _
+    (at-quad f .quad-at .ensures) _ _
     (f .before .gate-row .ensures) (full-lt f)
     (f .filled .ensures) _ (a .pass-doors .ensures)
 
@@ -221,7 +231,7 @@ loop-again c =
     let s = start (l .before) in
     flooding-more (s .args .z) (now (s .args .rows)) (now (s .args .may)) (s .args .row) (s .args .x) (s .pre .0 .0) (s .pre .0 .1)
     (s .pre .0 .2) _ (s .pre .1 .0) _ _ _ _ _ _ _ _ (some l) (l .before .loop .inv) _
-    (f .before .before .before .before .before .quad-at .ensures) _ _
+    (at-quad f .quad-at .ensures) _ _
     (f .before .gate-row .ensures) (full-lt f)
     (f .filled .ensures) _ (a .pass-doors .ensures) _ (o .ones .ensures .0)
 

@@ -6,7 +6,7 @@ use denote.Ref.{now}
 use Rattle.paper.specs.declared.Place.{Place}
 use Rattle.paper.specs.Lattice.{lattice, visitable}
 use Rattle.paper.proofs.Numbers.{cube-place}
-use Rattle.spread.specs.Ways.{planOf}
+use Rattle.ways.specs.Ways.{planOf}
 use Rattle.spread.proofs.Finish.{empty-closed}
 use Rattle.spread.proofs.Visiting.{visits}
 use Rattle.spread.proofs.Joining.{row-of, row-small, fresh, joined}
@@ -15,15 +15,18 @@ use Rattle.spread.proofs.flood_from.Statement.{statement}
 use Rattle.spread.proofs.flood_from.Tie as tie
 
 -- places: where the function begins, and the flood
+abbrev lent : tie.After-slice-known2 → tie.Start
+lent c = c .before .before .before .before
+
 abbrev entry : tie.After-struct-known3 → tie.Start
-entry c = c .before .before .before .before .before .before .before
+entry c = lent (c .before .before .before)
 
 abbrev lending : tie.After-flood-arg2 → tie.Start
 lending c = entry (c .before .before .before)
 
 mul-flood : tie.Need-mul-flood
 mul-flood c =
-    let s = c .before .before .before .before .before .before in
+    let s = lent (c .before .before) in
     omega (arith, row-small (s .args .z) (s .args .at) (s .pre .0 .0) (s .pre .0 .1))
 
 add-flood : tie.Need-add-flood

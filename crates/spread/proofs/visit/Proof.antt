@@ -8,7 +8,7 @@ use lib.ListN.{length}
 use Rattle.paper.specs.Lattice.{Lattice, lattice, cubeNo, cubeAt, visitable, visited}
 use Rattle.paper.proofs.Numbers.{cube-back}
 use Rattle.rows.specs.Rows.{HasCubes}
-use Rattle.spread.proofs.Ways.{rows-few, beyond-more}
+use Rattle.ways.proofs.Ways.{rows-few, beyond-more}
 use borrow.Author.Needs.{needs}
 use Rattle.spread.proofs.visit.Statement.{statement}
 use Rattle.spread.proofs.visit.Tie as tie

@@ -25,11 +25,13 @@ abbrev μ-loop : tie.MeasureT-loop
 
 -- it is a step of the definition's
 known : (c : tie.After-loop Inv-loop μ-loop) (i : ℕ) → i < 576
-    → entry (c .before .before .tet-steps .result) i ≡ tetStep (c .before .before .before .args .sizes) (i / 96) (rowEdge (i % 96 / 6) (i % 96 % 6))
+    → entry (c .before .before .tet-steps .result) i
+    ≡ tetStep (c .before .before .before .args .sizes) (i / 96) (rowEdge (i % 96 / 6) (i % 96 % 6))
 known c i h =
     let z = c .before .before .before .args .sizes in
     let l : rowEdge (i % 96 / 6) (i % 96 % 6) < 6 = edge-six (i % 96 / 6) (i % 96 % 6) (omega arith) (omega arith) in
-    ap (λ (l : List ℕ). entry l i) (c .before .before .tet-steps .ensures) ∙ step-at z (i / 96) (rowEdge (i % 96 / 6) (i % 96 % 6)) (omega arith) l
+    ap (λ (l : List ℕ). entry l i) (c .before .before .tet-steps .ensures)
+    ∙ step-at z (i / 96) (rowEdge (i % 96 / 6) (i % 96 % 6)) (omega arith) l
 
 tet-steps-requires : tie.Need-tet-steps-requires Inv-loop μ-loop
 tet-steps-requires c κs = c .pre
@@ -76,7 +78,8 @@ loop-again c =
     let e = tabled-at rowNumber 16 6 _ (w .0) (i % 96 / 6) (i % 96 % 6) (omega arith) (omega arith) in (
       w .0,
       filled-more _ 576 i _ _ (w .1) (omega arith)
-          (c .edge-step .ensures ∙ ap (λ (n : ℕ). getD (c .before .before .before .before .before .tet-steps .result) (6 * (i / 96) + (n - 1)) 0) e),
+          (c .edge-step .ensures
+          ∙ ap (λ (n : ℕ). getD (c .before .before .before .before .before .tet-steps .result) (6 * (i / 96) + (n - 1)) 0) e),
     )
 
 returns : tie.Need-returns Inv-loop μ-loop

@@ -18,12 +18,14 @@ module _ (s : tie.Start) where
   two = omega (arith, s .pre .4, count-le (s .args .r))
 
   -- the step at an edge of the row
-  at : (i k : ℕ) → i ≡ 96 * s .args .t + (6 * s .args .r + k) → k < 6 → getD (now (s .args .steps)) i 0 ≡ tetStep (s .args .sizes) (s .args .t) (rowEdge (s .args .r) k)
+  at : (i k : ℕ) → i ≡ 96 * s .args .t + (6 * s .args .r + k) → k < 6
+      → getD (now (s .args .steps)) i 0 ≡ tetStep (s .args .sizes) (s .args .t) (rowEdge (s .args .r) k)
   at i k e h = (λ j. getD (s .pre .1 j) (e j) 0) ∙ row-step-at (s .args .sizes) (s .args .t) (s .args .r) k (s .pre .2) (s .pre .3) h
 
   small : (i k : ℕ) → i ≡ 96 * s .args .t + (6 * s .args .r + k) → k < 6 → getD (now (s .args .steps)) i 0 ≤ 29133
   small i k e h =
-      omega (arith, at i k e h, tet-step-small (s .args .sizes) (s .pre .0) (s .args .t) (rowEdge (s .args .r) k) (s .pre .2) (edge-six (s .args .r) k (s .pre .3) h))
+      let six = edge-six (s .args .r) k (s .pre .3) h in
+      omega (arith, at i k e h, tet-step-small (s .args .sizes) (s .pre .0) (s .args .t) (rowEdge (s .args .r) k) (s .pre .2) six)
 
 mul-at : tie.Need-mul-at
 mul-at c = search needs
@@ -49,7 +51,8 @@ element-copy-out-t11 c = omega (arith, two c)
 add-t10 : tie.Need-add-t10
 add-t10 c =
     let s = c .before in
-    omega (arith, s .pre .5, small s (96 * s .args .t + 6 * s .args .r + 3 * s .args .j) (3 * s .args .j) (omega arith) (omega (arith, two s)))
+    let k = 3 * s .args .j in
+    omega (arith, s .pre .5, small s (96 * s .args .t + 6 * s .args .r + k) k (omega arith) (omega (arith, two s)))
 
 add-t9 : tie.Need-add-t9
 add-t9 c = omega (arith, two (c .before))
@@ -63,7 +66,8 @@ element-copy-out-t17 c = omega (arith, two (c .before))
 add-t18 : tie.Need-add-t18
 add-t18 c =
     let s = c .before .before in
-    omega (arith, s .pre .5, small s (96 * s .args .t + 6 * s .args .r + 3 * s .args .j + 1) (3 * s .args .j + 1) (omega arith) (omega (arith, two s)))
+    let k = 3 * s .args .j in
+    omega (arith, s .pre .5, small s (96 * s .args .t + 6 * s .args .r + k + 1) (k + 1) (omega arith) (omega (arith, two s)))
 
 add-t19 : tie.Need-add-t19
 add-t19 c = omega (arith, two (c .before .before))
@@ -77,7 +81,8 @@ element-copy-out-t23 c = omega (arith, two (c .before .before))
 add-t24 : tie.Need-add-t24
 add-t24 c =
     let s = c .before .before .before in
-    omega (arith, s .pre .5, small s (96 * s .args .t + 6 * s .args .r + 3 * s .args .j + 2) (3 * s .args .j + 2) (omega arith) (omega (arith, two s)))
+    let k = 3 * s .args .j in
+    omega (arith, s .pre .5, small s (96 * s .args .t + 6 * s .args .r + k + 2) (k + 2) (omega arith) (omega (arith, two s)))
 
 returns : tie.Need-returns
 returns c =
@@ -87,7 +92,8 @@ returns c =
     let a = at s i k (omega arith) (omega (arith, two s)) in
     let b = at s (i + 1) (k + 1) (omega arith) (omega (arith, two s)) in
     let d = at s (i + 2) (k + 2) (omega arith) (omega (arith, two s)) in
-    (λ i. tri (s .args .base + a i) (s .args .base + b i) (s .args .base + d i)) ∙ sym (row-triangle (s .args .sizes) (s .args .base) (s .args .t) (s .args .r) (s .args .j) (s .pre .4))
+    (λ i. tri (s .args .base + a i) (s .args .base + b i) (s .args .base + d i))
+    ∙ sym (row-triangle (s .args .sizes) (s .args .base) (s .args .t) (s .args .r) (s .args .j) (s .pre .4))
 
 pub row-triangle-spec : {M : Type 1} → statement M
 row-triangle-spec =

@@ -53,8 +53,11 @@ step-of-requires c κs =
     let i = c .before .before .before .loop .i in
     let w = c .before .before .before .loop .inv in
     let a = tabled-at (λ t j. the.low (tetEnds t j)) 6 6 _ (w .0) (i / 6) (i % 6) (omega arith) (omega arith) in
-    let b = tabled-at (λ t j. the.kindOf (tetEnds t j)) 6 6 _ (w .1) (i / 6) (i % 6) (omega arith) (omega arith) in
-    (c .before .before .before .before .pre, omega (arith, a, low-lt (i / 6) (i % 6) (omega arith) (omega arith)), omega (arith, b, kind-lt (tetEnds (i / 6) (i % 6))))
+    let b = tabled-at (λ t j. the.kindOf (tetEnds t j)) 6 6 _ (w .1) (i / 6) (i % 6) (omega arith) (omega arith) in (
+      c .before .before .before .before .pre,
+      omega (arith, a, low-lt (i / 6) (i % 6) (omega arith) (omega arith)),
+      omega (arith, b, kind-lt (tetEnds (i / 6) (i % 6))),
+    )
 
 mul-steps : tie.Need-mul-steps Inv-loop μ-loop
 mul-steps c = omega arith
@@ -74,8 +77,12 @@ loop-again c =
     let i = c .before .before .before .before .loop .i in
     let w = c .before .before .before .before .loop .inv in
     let a = tabled-at (λ t j. the.low (tetEnds t j)) 6 6 _ (w .0) (i / 6) (i % 6) (omega arith) (omega arith) in
-    let b = tabled-at (λ t j. the.kindOf (tetEnds t j)) 6 6 _ (w .1) (i / 6) (i % 6) (omega arith) (omega arith) in
-    (w .0, w .1, filled-more _ 36 i _ _ (w .2) (omega arith) (c .step-of .ensures ∙ (λ k. 7 * cornerStep (c .before .before .before .before .before .args .sizes) (a k) + b k)))
+    let b = tabled-at (λ t j. the.kindOf (tetEnds t j)) 6 6 _ (w .1) (i / 6) (i % 6) (omega arith) (omega arith) in (
+      w .0,
+      w .1,
+      filled-more _ 36 i _ _ (w .2) (omega arith)
+          (c .step-of .ensures ∙ (λ k. 7 * cornerStep (c .before .before .before .before .before .args .sizes) (a k) + b k)),
+    )
 
 returns : tie.Need-returns Inv-loop μ-loop
 unfolding tetSteps

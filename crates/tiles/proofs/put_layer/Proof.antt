@@ -16,8 +16,12 @@ Inv-loop table counts slots rows vis sizes z out₀ at n next₀ y₀ out next y
 abbrev μ-loop : tie.MeasureT-loop
 μ-loop table counts slots rows vis sizes z out₀ at n next₀ y₀ out next y = n - y
 
+-- places: where the slices are lent, and where the sizes are known
+abbrev lent : tie.After-slice-known Inv-loop μ-loop → tie.Start Inv-loop μ-loop
+lent c = c .before .before .before .before .before .before
+
 abbrev entry : tie.After-struct-known Inv-loop μ-loop → tie.Start Inv-loop μ-loop
-entry c = c .before .before .before .before .before .before .before
+entry c = lent (c .before)
 
 -- the numbers of a row
 abbrev one : tie.Start Inv-loop μ-loop → ℕ → List ℕ

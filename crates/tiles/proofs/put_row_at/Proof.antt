@@ -17,8 +17,12 @@ use borrow.Author.Needs.{needs}
 use Rattle.tiles.proofs.put_row_at.Statement.{statement}
 use Rattle.tiles.proofs.put_row_at.Tie as tie
 
+-- places: where the slices are lent, and where the sizes are known
+abbrev lent : tie.After-slice-known → tie.Start
+lent c = c .before .before .before .before .before .before
+
 abbrev entry : tie.After-struct-known → tie.Start
-entry c = c .before .before .before .before .before .before .before
+entry c = lent (c .before)
 
 abbrev from : tie.Start → Source
 from s = source (now (s .args .table)) (now (s .args .counts)) (now (s .args .slots))

@@ -1,0 +1,2 @@
+-- Laws of the sheet that a build writes.
+pub mod Output

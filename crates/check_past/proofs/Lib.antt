@@ -1,0 +1,2 @@
+-- Tests 17 to 19 of a file in the sheet's own order.
+pub mod Order

@@ -1,0 +1,2 @@
+-- The pass, cube by cube.
+pub mod Passes

@@ -1,0 +1,2 @@
+-- What the pass holds when it comes to a cube.
+pub mod Gathering

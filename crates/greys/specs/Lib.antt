@@ -1,0 +1,4 @@
+pub mod Level
+pub mod Sample
+pub mod Convert
+pub mod Within

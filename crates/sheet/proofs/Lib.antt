@@ -1,3 +1,0 @@
--- Laws of the sheet that a build writes.
-pub mod Output
-pub mod Answers

@@ -1,0 +1,2 @@
+-- The pieces of a lattice and the answer of a search for them.
+pub mod Pieces
