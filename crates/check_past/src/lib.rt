@@ -35,14 +35,14 @@ fn in_order(
         ⌜ (r ≡ true → Accepts rule L (now (rows .entry)) (now (vis .entry)) (now (bytes .entry)))
         × Beyond (neededSlots sizes) (now (slots .entry)) (now (slots .exit)) ⌝ }
 {
-    let same = check_ordered::same_vertices(rule, samples, sizes, rows, vis, bytes, slots);
+    let same = check_ordered_records::same_vertices(rule, samples, sizes, rows, vis, bytes, slots);
     if !same {
         return false;
     }
     let mut table = [0u16; 9216];
     let mut counts = [0usize; 256];
     patterns::pattern_table(sizes, &mut table[..], &mut counts[..]);
-    check_ordered::same_triangles(&table[..], &counts[..], slots, rows, vis, sizes, bytes)
+    check_ordered_triangles::same_triangles(&table[..], &counts[..], slots, rows, vis, sizes, bytes)
 }
 
 // Tests 17 to 19.

@@ -44,7 +44,7 @@ unfolding stepped
 coord-down e t h = rw (down-step e) (sub-pos (65536 * (e + 1)) (1 * t) (omega arith) ∙ ap pos (omega arith))
 
 -- one of the three
-three : (P : ℕ → ℕ → Type 0) → ((s : ℕ) → s < 64 → P s (s + 1)) → ((s : ℕ) → s < 64 → P s s) → ((e : ℕ) → e < 63 → P (e + 1) e) → (s e : ℕ) → Near s e → P s e
+pub three : (P : ℕ → ℕ → Type 0) → ((s : ℕ) → s < 64 → P s (s + 1)) → ((s : ℕ) → s < 64 → P s s) → ((e : ℕ) → e < 63 → P (e + 1) e) → (s e : ℕ) → Near s e → P s e
 three P u l d s e h =
     by (decLt s e) (decLt e s)
   where
@@ -59,18 +59,18 @@ three P u l d s e h =
         let q : s ≡ e = omega arith in
         subst (λ (x : ℕ). P s x) q (l s (h .low))
 
-pub fit : (t : ℕ) → t < 65536 → (s e : ℕ) → Near s e → Fit s e t
+pub fit : (t : ℕ) → t ≤ 65536 → (s e : ℕ) → Near s e → Fit s e t
 fit t ht = three (λ s e. Fit s e t)
     (λ s h. record { step = rw (up-step s) (record { sfits = omega arith }); product = rw (up-step s) (record { sfits = omega arith }); sum = rw (coord-up s t) (record { sfits = omega arith }) })
     (λ s h. record { step = rw (same-step s) (record { sfits = omega arith }); product = rw (same-step s) (record { sfits = omega arith }); sum = rw (coord-same s t) (record { sfits = omega arith }) })
     (λ e h. record { step = rw (down-step e) (record { sfits = omega arith }); product = rw (down-step e) (minus (1 * t) (omega arith)); sum = rw (coord-down e t (omega arith)) (record { sfits = omega arith }) })
   where
-    minus : (n : ℕ) → n < 65536 → SFits w32 (negℤ (pos n))
+    minus : (n : ℕ) → n ≤ 65536 → SFits w32 (negℤ (pos n))
     minus zero h = record { sfits = omega arith }
     minus (suc n) h = record { sfits = omega arith }
 
 -- it is the definition's
-pub stepped-is : (t : ℕ) → t < 65536 → (s e : ℕ) → Near s e → stepped s e t ≡ pos (coordinate s e t)
+pub stepped-is : (t : ℕ) → t ≤ 65536 → (s e : ℕ) → Near s e → stepped s e t ≡ pos (coordinate s e t)
 unfolding coordinate
 stepped-is t ht =
     three (λ s e. stepped s e t ≡ pos (coordinate s e t))

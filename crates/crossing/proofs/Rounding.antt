@@ -1,7 +1,7 @@
 -- A quotient rounded by a rule is one that is rounded down, of a little more. Assumes nothing.
 use mathlib.Core.Path.{_≡_, sym, ap, _∙_}
 use mathlib.Core.Logic.{inl, inr}
-use Prim.Native.Nat.{ℕ, _+_, _-_, _*_, _/_, _%_, _≤_, _<_}
+use Prim.Native.Nat.{ℕ, _+_, _-_, _*_, _/_, _≤_, _<_}
 use native.Mathlib.Omega.{arith}
 use native.Mathlib.Nat.{div-add-mod', mod-lt, div-lt-iff-lt-mul, le-div-iff-mul-le}
 use Rattle.paper.specs.declared.Rule.{Rule}
@@ -10,7 +10,7 @@ use Rattle.paper.specs.Sheet.{rounded}
 use Rattle.paper.proofs.Crossing.{nearest-cases}
 use Rattle.crossing.specs.Rounding.{moreBy}
 
-quotient-is : (n d t : ℕ) → 0 < d → t * d ≤ n → n < (t + 1) * d → n / d ≡ t
+pub quotient-is : (n d t : ℕ) → 0 < d → t * d ≤ n → n < (t + 1) * d → n / d ≡ t
 quotient-is n d t h l g =
     let b : t ≤ n / d = le-div-iff-mul-le h .1 l in
     let a : n / d < t + 1 = div-lt-iff-lt-mul h .1 g in

@@ -42,6 +42,19 @@ fn rounded_by(rule: Rule, n: u32, d: u32) -> u32
     (n + more_by(rule, d)) / d
 }
 
+// Whether t is n / d in whole units, by a rule.
+fn is_rounded(rule: Rule, n: u32, d: u32, t: u32) -> bool
+    requires { ⌜ (n ≤ 2147483648) × (0 < d) × (d ≤ 65535) × (t ≤ 65536) ⌝ }
+    ensures { λ r. ⌜ (r ≡ true → t ≡ rounded rule n d) ⌝ }
+{
+    let m = n + more_by(rule, d);
+    let low = t * d;
+    if m < low {
+        return false;
+    }
+    m - low < d
+}
+
 // t by a rule, for the solid end's value p and the air end's value q.
 pub fn crossing_of(rule: Rule, p: i16, q: i16) -> u32
     requires { ⌜ (air p ≡ false) × (air q ≡ true) ⌝ }
@@ -50,6 +63,16 @@ pub fn crossing_of(rule: Rule, p: i16, q: i16) -> u32
     let n = -(p as i32);
     let d = (q as i32) - (p as i32);
     rounded_by(rule, 65536 * (n as u32), d as u32)
+}
+
+// Whether t is that number: a product where it is found by a quotient.
+pub fn is_crossing(rule: Rule, p: i16, q: i16, t: u32) -> bool
+    requires { ⌜ (air p ≡ false) × (air q ≡ true) × (t ≤ 65536) ⌝ }
+    ensures { λ r. ⌜ (r ≡ true → t ≡ crossing rule p q) ⌝ }
+{
+    let n = -(p as i32);
+    let d = (q as i32) - (p as i32);
+    is_rounded(rule, 65536 * (n as u32), d as u32, t)
 }
 
 // The coordinate, on one axis, of a crossing that stands t units from the solid end towards the air end.

@@ -125,20 +125,70 @@ fn still_below(so: bool, a: u32, n: u32) -> bool
     so
 }
 
-// Whether the triangles' numbers are all below V: a loop without a way out, so that many are looked at in a turn.
+// The same of number i of the triangles; nv is V.
+fn below_at(so: bool, bytes: &[u8], nv: usize, n: u32, i: usize) -> bool
+    requires { ⌜ Ranged (now bytes) × (nv ≡ fileV (now bytes)) × (i < 3 * fileT (now bytes)) ⌝ }
+    ensures { λ r. ⌜ (r ≡ true → (so ≡ true) × (getD (fileTriangles (now (bytes .entry))) i 0 < n)) ⌝ }
+{
+    still_below(so, triangle_word(bytes, nv, i), n)
+}
+
+// The same of number i of each of the first eight parts of the triangles' numbers, `part` numbers to a part.
+fn eight_below(so: bool, bytes: &[u8], nv: usize, n: u32, part: usize, i: usize) -> bool
+    requires { ⌜ Ranged (now bytes) × (nv ≡ fileV (now bytes)) × (8 * part ≤ 3 * fileT (now bytes)) × (i < part) ⌝ }
+    ensures { λ r. ⌜ (r ≡ true → (so ≡ true) × ((k : ℕ) → k < 8 → getD (fileTriangles (now (bytes .entry))) (k * part + i) 0 < n)) ⌝ }
+{
+    let a = below_at(so, bytes, nv, n, i);
+    let b = below_at(a, bytes, nv, n, part + i);
+    let c = below_at(b, bytes, nv, n, 2 * part + i);
+    let d = below_at(c, bytes, nv, n, 3 * part + i);
+    let e = below_at(d, bytes, nv, n, 4 * part + i);
+    let f = below_at(e, bytes, nv, n, 5 * part + i);
+    let g = below_at(f, bytes, nv, n, 6 * part + i);
+    below_at(g, bytes, nv, n, 7 * part + i)
+}
+
+// Whether the numbers of these eight parts are all below n: memory is read faster in eight places than in one.
+fn parts_below(bytes: &[u8], nv: usize, n: u32, part: usize) -> bool
+    requires { ⌜ Ranged (now bytes) × (nv ≡ fileV (now bytes)) × (8 * part ≤ 3 * fileT (now bytes)) ⌝ }
+    ensures { λ r. ⌜ (r ≡ true → ((j : ℕ) → j < 8 * part → getD (fileTriangles (now (bytes .entry))) j 0 < n)) ⌝ }
+{
+    let mut below = true;
+    let mut i = 0;
+    while i < part {
+        below = eight_below(below, bytes, nv, n, part, i);
+        i += 1;
+    }
+    below
+}
+
+// Whether the numbers from number `from` to number `to` are all below n.
+fn rest_below(bytes: &[u8], nv: usize, n: u32, from: usize, to: usize) -> bool
+    requires { ⌜ Ranged (now bytes) × (nv ≡ fileV (now bytes)) × (from ≤ to) × (to ≤ 3 * fileT (now bytes)) ⌝ }
+    ensures { λ r. ⌜ (r ≡ true → ((j : ℕ) → from ≤ j → j < to → getD (fileTriangles (now (bytes .entry))) j 0 < n)) ⌝ }
+{
+    let mut below = true;
+    let mut i = from;
+    while i < to {
+        below = below_at(below, bytes, nv, n, i);
+        i += 1;
+    }
+    below
+}
+
+// Whether the triangles' numbers are all below V: loops without a way out, so that many are looked at in a turn.
 fn all_below(bytes: &[u8], nv: usize, nt: usize) -> bool
     requires { ⌜ Ranged (now bytes) × (nv ≡ fileV (now bytes)) × (nt ≡ fileT (now bytes)) ⌝ }
     ensures { λ r. ⌜ (r ≡ true → ((j : ℕ) → j < 3 * nt → getD (fileTriangles (now (bytes .entry))) j 0 < nv)) ⌝ }
 {
-    let v = nv as u32;
-    let n = 3 * nt;
-    let mut below = true;
-    let mut i = 0;
-    while i < n {
-        below = still_below(below, triangle_word(bytes, nv, i), v);
-        i += 1;
+    let n = nv as u32;
+    let to = 3 * nt;
+    let part = to / 8;
+    let below = parts_below(bytes, nv, n, part);
+    if !below {
+        return false;
     }
-    below
+    rest_below(bytes, nv, n, 8 * part, to)
 }
 
 // The first triangle of a file with an index that is not below V, or T.

@@ -13,7 +13,7 @@ use Rattle.crossing.proofs.position.Tie as tie
 
 module _ (c : tie.Start) where
   f : Fit (c .args .solid) (c .args .airy) (c .args .t)
-  f = fit (c .args .t) (c .pre .1) (c .args .solid) (c .args .airy) (c .pre .0)
+  f = fit (c .args .t) (omega (arith, c .pre .1)) (c .args .solid) (c .args .airy) (c .pre .0)
 
   s-is : toZ w32 (c .args .solid) ≡ pos (c .args .solid)
   s-is = toZ-pos w32 (omega (arith, c .pre .0 .low))
@@ -53,7 +53,7 @@ returns : tie.Need-returns
 unfolding stepped
 returns c =
     rw (s-is c, e-is c, t-is c, toZ-ofZ (f c .step), toZ-ofZ (f c .product), base-is c) (toZ-ofZ (f c .sum))
-    ∙ stepped-is (c .args .t) (c .pre .1) (c .args .solid) (c .args .airy) (c .pre .0)
+    ∙ stepped-is (c .args .t) (omega (arith, c .pre .1)) (c .args .solid) (c .args .airy) (c .pre .0)
 
 pub position-spec : {M : Type 1} → statement M
 position-spec =

@@ -1,0 +1,2 @@
+-- Laws of rows of triangles.
+pub mod Tiles
