@@ -1,1 +1,2 @@
 // What an accepted file is: theorems only.
+#![tactic(auto)]

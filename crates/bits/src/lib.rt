@@ -1,4 +1,6 @@
 // Words as sets of places: place x is in a word where its bit x is 1.
+#![tactic(auto)]
+
 ghost use Rattle.std.specs.Prelude.{◌≡◌, ◌-◌, ◌^◌, ◌≤◌, ◌<◌};
 ghost use Rattle.std.specs.Int.Count.{ones as ones_of};
 ghost use Rattle.bits.specs.Words.{bit};

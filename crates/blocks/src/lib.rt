@@ -1,4 +1,6 @@
 // Blocks of cubes whose samples are all on one side. What a block and its parts are stands in specs.
+#![tactic(auto)]
+
 ghost use Rattle.std.specs.Prelude.{◌≡◌, true, false, cond, ◌+◌, ◌-◌, ◌*◌, ◌/◌, ◌^◌, ◌≤◌, ◌<◌, length, get_or};
 ghost use Rattle.std.specs.Int.Bits.{bit_and};
 ghost use Rattle.paper.specs.Lattice.{place};

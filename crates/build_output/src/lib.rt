@@ -1,4 +1,6 @@
 // What a build writes, each t to the nearest unit, where there is room.
+#![tactic(auto)]
+
 ghost use Rattle.std.specs.Prelude.{◌≡◌, ◌*◌, ◌/◌, ◌≤◌, length};
 ghost use Rattle.lists.specs.Lists.{Beyond};
 ghost use Rattle.paper.specs.Lattice.{lattice};

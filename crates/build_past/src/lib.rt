@@ -1,4 +1,6 @@
 // A build past tests 1 to 5, from a crossed cube.
+#![tactic(auto)]
+
 ghost use Rattle.std.specs.Prelude.{◌<◌, T};
 ghost use Rattle.paper.specs.Lattice.{lattice, cubes, crossed};
 ghost use Rattle.paper.specs.Room.{work, lengths};

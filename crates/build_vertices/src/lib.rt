@@ -1,4 +1,6 @@
 // All vertices of a sheet, written and numbered, layer by layer.
+#![tactic(auto)]
+
 ghost use Rattle.std.specs.Prelude.{◌*◌, ◌≤◌, ◌<◌, length};
 ghost use Rattle.paper.specs.Lattice.{lattice};
 ghost use Rattle.paper.specs.Room.{needed_slots};

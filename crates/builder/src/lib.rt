@@ -1,4 +1,6 @@
 // Building one sheet, each t to the nearest unit.
+#![tactic(auto)]
+
 ghost use Rattle.paper.specs.Lattice.{lattice};
 ghost use Rattle.paper.specs.Room.{work};
 ghost use Rattle.paper.specs.Build.{lent, Builds};

@@ -1,5 +1,7 @@
 // The library for programs in other languages: the entry points under plain names, a start as a number and a place, a rule as a number,
 // a level as a flag and two greys.
+#![tactic(auto)]
+
 ghost use Rattle.std.specs.Prelude.{◌≡◌};
 ghost use Rattle.paper.specs.Lattice.{lattice};
 ghost use Rattle.paper.specs.Room.{work};

@@ -1,4 +1,6 @@
 // Tests 17 to 19 of a file whose records and triangles may be in any order.
+#![tactic(auto)]
+
 ghost use Rattle.std.specs.Prelude.{◌*◌, ◌≤◌, length};
 ghost use Rattle.lists.specs.Lists.{Beyond};
 ghost use Rattle.paper.specs.Lattice.{lattice};

@@ -1,4 +1,6 @@
 // A file's vertex records of a row of anchors, one by one, against the edges of the row.
+#![tactic(auto)]
+
 ghost use Rattle.std.specs.Prelude.{◌≡◌, ℕ, ◌+◌, ◌-◌, ◌*◌, ◌<◌, ◌≤◌, true, length, pos, ◌+ℤ◌, ◌*ℤ◌, if◌then◌else◌, slice_index, slice_index_or};
 ghost use Rattle.std.specs.Bool.{xor};
 ghost use Rattle.paper.specs.Lattice.{lattice, air, place, sample_no, corner};

@@ -1,4 +1,6 @@
 // A file's vertex records against those of the sheet, in the sheet's own order.
+#![tactic(auto)]
+
 ghost use Rattle.std.specs.Prelude.{◌≡◌, true, ◌+◌, ◌*◌, ◌≤◌, ◌<◌, length};
 ghost use Rattle.lists.specs.Lists.{each, Beyond};
 ghost use Rattle.paper.specs.Lattice.{lattice};

@@ -1,4 +1,6 @@
 // A file's triangles against those of the sheet, in the sheet's own order.
+#![tactic(auto)]
+
 ghost use Rattle.std.specs.Prelude.{◌≡◌, true, ◌+◌, ◌*◌, ◌≤◌, ◌<◌, length, take, drop};
 ghost use Rattle.paper.specs.File.{file_v, file_t, file_triangles};
 ghost use Rattle.paper.specs.Room.{needed_slots};

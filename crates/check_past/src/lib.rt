@@ -1,4 +1,6 @@
 // A check past test 16: in the sheet's own order, and where that fails in any order.
+#![tactic(auto)]
+
 ghost use Rattle.std.specs.Prelude.{◌≡◌, true, ◌*◌, ◌≤◌, ◌<◌, T, length};
 ghost use Rattle.lists.specs.Lists.{Beyond};
 ghost use Rattle.paper.specs.Lattice.{lattice, cubes, crossed};

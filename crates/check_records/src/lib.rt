@@ -1,4 +1,6 @@
 // Test 17: the vertex records of a file, one by one, against the slots of the sheet's vertices.
+#![tactic(auto)]
+
 ghost use Rattle.std.specs.Prelude.{◌≡◌, ◌*◌, ◌/◌, ◌≤◌, ◌<◌, pos, length, get_or};
 ghost use Rattle.paper.specs.Lattice.{lattice, sample_at};
 ghost use Rattle.paper.specs.Room.{needed_slots};

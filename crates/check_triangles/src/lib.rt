@@ -1,4 +1,6 @@
 // Test 18: the triangles of a file, named by edges, against those of the visited cubes.
+#![tactic(auto)]
+
 ghost use Rattle.std.specs.Prelude.{◌≡◌, cond, ◌%◌, ◌^◌, min, ◌≤◌, ◌<◌, ◌*◌, eqb, length, get_or};
 ghost use Rattle.paper.specs.Lattice.{cubes};
 ghost use Rattle.paper.specs.Room.{needed_slots};
@@ -16,7 +18,7 @@ use paper::{Place, Sizes};
 use tetra::Triangle;
 
 // A place of a cube, 12 for none, 7 × the number of the cube's lowest sample, and the cube's word, 0 for none.
-#[derive(Drop)]
+#[derive(Clone, Copy)]
 pub struct Spot {
     pub cube: usize,
     pub base: usize,

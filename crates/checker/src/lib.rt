@@ -1,4 +1,6 @@
 // The checker: a sheet file against its samples and a start, under a rule of rounding.
+#![tactic(auto)]
+
 ghost use Rattle.std.specs.Prelude.{◌≡◌};
 ghost use Rattle.paper.specs.Lattice.{lattice};
 ghost use Rattle.paper.specs.Room.{work};

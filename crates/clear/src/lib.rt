@@ -1,4 +1,6 @@
 // The front of lent work slices set to 0.
+#![tactic(auto)]
+
 ghost use Rattle.std.specs.Prelude.{◌≡◌, ◌≤◌, length};
 ghost use Rattle.lists.specs.Lists.{cleared};
 ghost use Rattle.paper.specs.Room.{work, lengths, clean};

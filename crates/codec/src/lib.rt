@@ -1,4 +1,6 @@
 // Numbers as bytes, the low one first, and slices of them.
+#![tactic(auto)]
+
 ghost use Rattle.std.specs.Prelude.{◌≡◌, map, ◌+◌, ◌*◌, ◌<◌, ◌≤◌, length, get_or, take};
 ghost use Rattle.std.proofs.lemmas.List.Edits.{sets};
 ghost use Rattle.lists.specs.Lists.{range, each};

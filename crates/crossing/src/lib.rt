@@ -1,4 +1,6 @@
 // Crossings: t, positions, and the record of a vertex.
+#![tactic(auto)]
+
 ghost use Rattle.std.specs.Prelude.{◌≡◌, true, false, ◌+◌, ◌*◌, ◌≤◌, ◌<◌, pos, length};
 ghost use Rattle.std.proofs.lemmas.List.Edits.{sets};
 ghost use Rattle.paper.specs.Lattice.{lattice, air, sample_no, value_at, air_at, corner};
@@ -10,7 +12,7 @@ ghost use Rattle.crossing.specs.Rounding.{more_by};
 use paper::{Place, Rule, Sizes};
 
 // A vertex record.
-#[derive(Drop)]
+#[derive(Clone, Copy)]
 pub struct Vertex {
     pub edge: i32,
     pub x: i32,

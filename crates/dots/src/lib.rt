@@ -1,4 +1,6 @@
 // The vertices of anchors, written by words of kinds and numbered in the slots of their edges.
+#![tactic(auto)]
+
 ghost use Rattle.std.specs.Prelude.{◌≡◌, ◌+◌, ◌*◌, ◌≤◌, ◌<◌, length};
 ghost use Rattle.paper.specs.Lattice.{lattice, sample_no};
 ghost use Rattle.paper.specs.Room.{needed_slots};

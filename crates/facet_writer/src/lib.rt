@@ -1,4 +1,6 @@
 // Writes a facet of a binary STL file.
+#![tactic(auto)]
+
 ghost use Rattle.std.specs.Prelude.{◌≡◌, ◌+◌, ◌≤◌, length};
 ghost use Rattle.std.proofs.lemmas.List.Edits.{sets};
 ghost use Rattle.facets.specs.Facets.{Numbers, corner_bytes, facet_bytes};

@@ -1,4 +1,6 @@
 // Coordinates as f32 in sample steps, and corners. What the bytes of a facet are stands in specs.
+#![tactic(auto)]
+
 ghost use Rattle.std.specs.Prelude.{◌≡◌, true, not, T};
 ghost use Rattle.std.specs.Float.{binary32};
 ghost use Rattle.std.specs.Float.Ieee.{of_bits, is_nan};
@@ -6,7 +8,7 @@ ghost use Rattle.facets.specs.Steps.{float_of, in_bounds, is_image, word_of, nat
 ghost use Rattle.facets.specs.Facets.{Bounded, corner_of};
 
 // "A corner is one record of three floats.", in sample steps.
-#[derive(Drop)]
+#[derive(Clone, Copy)]
 pub struct Corner {
     pub x: f32,
     pub y: f32,
@@ -14,7 +16,7 @@ pub struct Corner {
 }
 
 // A triangle's corners, in the sheet's order.
-#[derive(Drop)]
+#[derive(Clone, Copy)]
 pub struct Facet {
     pub a: Corner,
     pub b: Corner,

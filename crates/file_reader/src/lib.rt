@@ -1,4 +1,6 @@
 // Reads a sheet file.
+#![tactic(auto)]
+
 ghost use Rattle.std.specs.Prelude.{◌≡◌, ◌++◌, ◌+◌};
 ghost use Rattle.paper.specs.Tests.{judge};
 ghost use Rattle.paper.specs.Room.{room_tests};

@@ -1,4 +1,6 @@
 // Volumes in f32, document 02 (vii): voxels and a level to samples.
+#![tactic(auto)]
+
 ghost use Rattle.std.specs.Prelude.{◌≡◌, ◌≤◌, length, map};
 ghost use Rattle.lists.specs.Lists.{over};
 ghost use Rattle.greys.specs.Sample.{sample_of};

@@ -1,4 +1,6 @@
 // The pass over the crossed cubes by rising number: a cube that is in no piece so far begins one.
+#![tactic(auto)]
+
 ghost use Rattle.std.specs.Prelude.{List, ◌+◌, ◌-◌, ◌*◌, ◌≤◌, ◌<◌, ℤ, length};
 ghost use Rattle.paper.specs.Lattice.{lattice, cubes, cube_no};
 ghost use Rattle.paper.specs.Within.{Sized, CubeIn};

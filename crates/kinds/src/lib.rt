@@ -1,4 +1,6 @@
 // The edges with a vertex of a row of anchors, a word to a kind; and how many vertices and triangles a row has.
+#![tactic(auto)]
+
 ghost use Rattle.std.specs.Prelude.{◌≡◌, ◌+◌, ◌*◌, ◌≤◌, ◌<◌, length};
 ghost use Rattle.lists.specs.Lists.{range, count};
 ghost use Rattle.paper.specs.Sheet.{weight};
@@ -11,7 +13,7 @@ use paper::Sizes;
 use rows::Quad;
 
 // The edges with a vertex of a row of anchors: a word for each kind.
-#[derive(Drop)]
+#[derive(Clone, Copy)]
 pub struct KindWords {
     pub k0: u64,
     pub k1: u64,

@@ -1,4 +1,6 @@
 // Places of a lattice and their numbers.
+#![tactic(auto)]
+
 ghost use Rattle.std.specs.Prelude.{◌≡◌, ◌+◌, ◌*◌, ◌/◌, ◌%◌, ◌≤◌, ◌<◌};
 ghost use Rattle.paper.specs.Lattice.{place, axis, axes, samples, sample_no, cubes, cube_no, cube_at};
 ghost use Rattle.paper.specs.Within.{Sized, SampleIn, CubeIn};

@@ -1,4 +1,6 @@
 // The tests of a file's bytes, which a reader and a checker share, and the numbers that stand in them.
+#![tactic(auto)]
+
 ghost use Rattle.std.specs.Prelude.{◌≡◌, true, ℕ, ◌+◌, ◌*◌, ◌<◌, ◌≤◌, pos, length, get_or};
 ghost use Rattle.paper.specs.Tests.{judge};
 ghost use Rattle.paper.specs.File.{first_bad, limits, trailer, file_v, file_t, file_sizes, file_vertices, file_triangles, laid_out, file_tests};

@@ -4,6 +4,7 @@
 // 1,687 vertices; a sheet with many handles, 966 vertices and yet 2,004 triangles; document 01's example; 5 x 4 x 3 samples from -32,767
 // to 32,767; the same with the fill for each -32,767, which leaves no cube free of it; and 3 x 3 x 3 samples with air in the middle and
 // the fill at (0, 0, 0).
+#![tactic(auto)]
 
 // The listings of the bytes.
 fn each(input: &[u8]) {

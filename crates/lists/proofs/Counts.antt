@@ -45,7 +45,8 @@ module _ {A : Type 0} where
   sum_few f (x ∷ l) h = omega (arith, h x (here refl), sum_few f l (λ a i. h a (there i)))
 
   -- a sum of at most ones that is as large as can be
-  sum_full : (f : A → ℕ) {l : List A} {a : A} → ((a : A) → In a l → f a ≤ 1) → sum f l ≡ length l → In a l → f a ≡ 1
+  sum_full : (f : A → ℕ) {a : A} {l : List A} → ((a : A) → In a l → f a ≤ 1) → sum f l ≡ length l → In a l → f a ≡ 1
+  sum_full f {l = []} h e i = elim i [ ]
   sum_full f {l = x ∷ l} h e (here q) = ap f q ∙ omega (arith, h x (here refl), sum_few f l (λ a i. h a (there i)))
   sum_full f {l = x ∷ l} h e (there i) =
       sum_full f {l = l} (λ a j. h a (there j)) (omega (arith, h x (here refl), sum_few f l (λ a j. h a (there j)))) i
@@ -71,12 +72,13 @@ module _ {A : Type 0} where
       go (suc k) e r = (x, here refl, λ z. omega arith)
 
   -- a part of a sum
-  pub part_le : (f : A → ℕ) {l : List A} {a : A} → In a l → f a ≤ sum f l
+  pub part_le : (f : A → ℕ) {a : A} {l : List A} → In a l → f a ≤ sum f l
+  part_le f {a = a} {l = []} x'' = elim x'' [ ]
   part_le f {l = x ∷ l} (here e) = omega (arith, ap f e)
   part_le f {l = x ∷ l} (there i) = omega (arith, part_le f i)
 
   -- two members that contribute to a sum of 1 are one
-  pub one_member : (f : A → ℕ) {l : List A} {a b : A} → sum f l ≤ 1 → In a l → In b l → (f a ≡ 0 → ⊥) → (f b ≡ 0 → ⊥) → a ≡ b
+  pub one_member : (f : A → ℕ) {a b : A} {l : List A} → sum f l ≤ 1 → In a l → In b l → (f a ≡ 0 → ⊥) → (f b ≡ 0 → ⊥) → a ≡ b
   one_member f h (here e) (here q) p r = e ∙ sym q
   one_member f h (here e) (there j) p r = absurd (omega (arith, ap f e, part_le f j, p, r))
   one_member f h (there i) (here q) p r = absurd (omega (arith, ap f q, part_le f i, p, r))
@@ -191,6 +193,7 @@ module _ {A : Type 0} where
 
   -- a sum to which one member only contributes
   pub sum_one : (f : A → ℕ) {l : List A} → Unique l → (c : A) → In c l → ((a : A) → In a l → (f a ≡ 0 → ⊥) → a ≡ c) → sum f l ≡ f c
+  sum_one f {l = []} u c i h = elim i [ ]
   sum_one f {l = x ∷ l} (more n u) c (here e) h =
       let r : sum f l ≡ 0 = sum_none f l (λ a i k. n (Memᴰ.cast (sym (h a (there i) k ∙ e)) i)) in
       let q : f x ≡ f c = ap f (sym e) in

@@ -41,7 +41,8 @@ module _ {A : Type 0} where
   all_append p [] m = refl
   all_append p (x ∷ l) m = ap (λ (b : Bool). p x && b) (all_append p l m) ∙ sym (and_assoc (p x) (all p l) (all p m))
 
-  pub all_in : (p : A → Bool) {l : List A} {a : A} → T (all p l) → In a l → T (p a)
+  pub all_in : (p : A → Bool) {a : A} {l : List A} → T (all p l) → In a l → T (p a)
+  all_in p {a = a} {l = []} t x5 = elim x5 [ ]
   all_in p {l = x ∷ l} t (here e) = subst (λ (k : A). T (p k)) (sym e) (and_left (p x) (all p l) t)
   all_in p {l = x ∷ l} t (there i) = all_in p (and_right (p x) (all p l) t) i
 
@@ -54,7 +55,8 @@ module _ {A : Type 0} where
   members [] h = tt
   members (x ∷ l) h = (h x (here refl), members l (λ a i. h a (there i)))
 
-  pub of_all : (P : A → Type 0) {l : List A} {a : A} → All P l → In a l → P a
+  pub of_all : (P : A → Type 0) {a : A} {l : List A} → All P l → In a l → P a
+  of_all P {l = []} h i = elim i [ ]
   of_all P {l = x ∷ l} h (here e) = subst P (sym e) h.0
   of_all P {l = x ∷ l} h (there i) = of_all P {l = l} h.1 i
 
@@ -72,16 +74,18 @@ module _ {A : Type 0} where
       go true q (there j) r = let m : In a l × T (p a) = r j in (there m.0, m.1)
       go false q j r = let m : In a l × T (p a) = r j in (there m.0, m.1)
 
-  pub in_keep : (p : A → Bool) {l : List A} {a : A} → In a l → T (p a) → In a (keep p l)
-  in_keep p {l = x ∷ l} {a = a} (here e) t =
+  pub in_keep : (p : A → Bool) {a : A} {l : List A} → In a l → T (p a) → In a (keep p l)
+  in_keep p {a = a} {l = []} x5 t = elim x5 [ ]
+  in_keep p {a = a} {l = x ∷ l} (here e) t =
       subst (λ (b : Bool). In a (cons_if b x (keep p l))) (sym (t_to_eq (p x) (subst (λ k. T (p k)) e t))) (here e)
-  in_keep p {l = x ∷ l} {a = a} (there i) t = go (p x) (in_keep p i t)
+  in_keep p {a = a} {l = x ∷ l} (there i) t = go (p x) (in_keep p i t)
     where
       go : (b : Bool) → In a (keep p l) → In a (cons_if b x (keep p l))
       go true j = there j
       go false j = j
 
-  pub member_any : (p : A → Bool) {l : List A} {a : A} → In a l → T (p a) → T (any p l)
+  pub member_any : (p : A → Bool) {a : A} {l : List A} → In a l → T (p a) → T (any p l)
+  member_any p {a = a} {l = []} x5 t = elim x5 [ ]
   member_any p {l = x ∷ l} (here e) t = or_left (p x) (any p l) (subst (λ k. T (p k)) e t)
   member_any p {l = x ∷ l} (there i) t = or_right (p x) (any p l) (member_any p i t)
 
@@ -115,8 +119,9 @@ module _ {A B : Type 0} where
       go (inl j) r = (x, here refl, j)
       go (inr j) r = let m : (a : A) × In a l × In b (f a) = r j in (m.0, there m.1, m.2)
 
-  pub in_each : (f : A → List B) {l : List A} {a : A} {b : B} → In a l → In b (f a) → In b (each f l)
-  in_each f {l = x ∷ l} {b = b} (here e) j = Memᴰ.append_left (each f l) (subst (λ k. In b (f k)) e j)
+  pub in_each : (f : A → List B) {a : A} {b : B} {l : List A} → In a l → In b (f a) → In b (each f l)
+  in_each f {a = a} {b = b} {l = []} x5 j = elim x5 [ ]
+  in_each f {b = b} {l = x ∷ l} (here e) j = Memᴰ.append_left (each f l) (subst (λ k. In b (f k)) e j)
   in_each f {l = x ∷ l} (there i) j = Memᴰ.append_right (f x) (in_each f i j)
 
   pub all_map : (p : B → Bool) (f : A → B) (l : List A) → all p (map f l) ≡ all (λ a. p (f a)) l

@@ -1,4 +1,6 @@
 // The lowest crossed cube, of all or of those off the bounds.
+#![tactic(auto)]
+
 ghost use Rattle.std.specs.Prelude.{◌≡◌, List, ℤ, ◌+◌, ◌*◌, ◌≤◌, ◌<◌, length, get_or};
 ghost use Rattle.paper.specs.Lattice.{lattice, lowest, inner};
 ghost use Rattle.paper.specs.Within.{Sized};

@@ -1,4 +1,6 @@
 // The block search: it marks the crossed cubes in rows of cubes, passing over blocks whose samples are all on one side.
+#![tactic(auto)]
+
 ghost use Rattle.std.specs.Prelude.{◌≡◌, true, false, List, ℤ, ◌+◌, ◌-◌, ◌*◌, ◌≤◌, ◌<◌, length};
 ghost use Rattle.paper.specs.Lattice.{lattice, place};
 ghost use Rattle.paper.specs.Within.{Sized, CubeIn};

@@ -1,8 +1,9 @@
 // What the documents' answers, starts and rules are made of. The definitions that they give them stand in specs/.
+#![tactic(auto)]
 
 // How many samples a lattice has on each axis.
 #[repr(C)]
-#[derive(Drop)]
+#[derive(Clone, Copy)]
 pub struct Sizes {
     pub nx: usize,
     pub ny: usize,
@@ -11,7 +12,7 @@ pub struct Sizes {
 
 // Where a sample or a cube stands.
 #[repr(C)]
-#[derive(Drop)]
+#[derive(Clone, Copy)]
 pub struct Place {
     pub x: usize,
     pub y: usize,
@@ -19,7 +20,7 @@ pub struct Place {
 }
 
 // The start: none named, the lowest crossed cube by name, or the cube at a place.
-#[derive(Drop)]
+#[derive(Clone, Copy)]
 pub enum Start {
     Unnamed,
     Lowest,
@@ -27,7 +28,7 @@ pub enum Start {
 }
 
 // How t is rounded: down, as in document 01, or to the nearest unit.
-#[derive(Drop)]
+#[derive(Clone, Copy)]
 pub enum Rule {
     Down,
     Nearest,
@@ -35,7 +36,7 @@ pub enum Rule {
 
 // The answer of a test: 0 or the number of a refusal, and its place.
 #[repr(C)]
-#[derive(Drop)]
+#[derive(Clone, Copy)]
 pub struct Verdict {
     pub number: usize,
     pub place: usize,
@@ -43,7 +44,7 @@ pub struct Verdict {
 
 // The answer of a build.
 #[repr(C)]
-#[derive(Drop)]
+#[derive(Clone, Copy)]
 pub struct Built {
     pub number: usize,
     pub vertices: usize,
@@ -53,7 +54,7 @@ pub struct Built {
 
 // The answer of a writer.
 #[repr(C)]
-#[derive(Drop)]
+#[derive(Clone, Copy)]
 pub struct Wrote {
     pub number: usize,
     pub place: usize,
@@ -62,7 +63,7 @@ pub struct Wrote {
 
 // The answer of a reader.
 #[repr(C)]
-#[derive(Drop)]
+#[derive(Clone, Copy)]
 pub struct Got {
     pub number: usize,
     pub place: usize,

@@ -1,4 +1,6 @@
 // The table of the 256 patterns, made once a call: for each the steps of the edges of its triangles.
+#![tactic(auto)]
+
 ghost use Rattle.std.specs.Prelude.{◌≡◌, ◌+◌, ◌≤◌, ◌<◌, length};
 ghost use Rattle.std.proofs.lemmas.List.Edits.{sets};
 ghost use Rattle.paper.specs.Within.{Sized};

@@ -1,4 +1,6 @@
 // The lowest cube of each piece of a lattice.
+#![tactic(auto)]
+
 ghost use Rattle.std.specs.Prelude.{◌≡◌, cond, List, ◌≤◌, leb, ℤ, length, take};
 ghost use Rattle.paper.specs.Lattice.{lattice};
 ghost use Rattle.paper.specs.Room.{work, lengths, output_after};

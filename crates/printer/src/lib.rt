@@ -1,5 +1,7 @@
 // A listing as text. What is printed is tested by the stored runs of the programs above, and not proved: no contract can
 // say what a program writes. Proved is that each line's numbers stand in the room that was lent, and all that `lister` says.
+#![tactic(auto)]
+
 ghost use Rattle.std.specs.Prelude.{◌≡◌, ◌+◌, ◌*◌, ◌≤◌, nat_abs, length};
 
 use paper::Built;

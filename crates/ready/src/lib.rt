@@ -1,4 +1,6 @@
 // Tests 1 to 5 on the samples, which building and checking share, the rows of sides and of cubes that may be visited, and the start cube.
+#![tactic(auto)]
+
 ghost use Rattle.std.specs.Prelude.{◌≡◌, ◌*◌, ◌≤◌, length};
 ghost use Rattle.paper.specs.Lattice.{lattice, in_lattice};
 ghost use Rattle.paper.specs.Room.{of_lengths, roomy};
@@ -9,7 +11,7 @@ ghost use Rattle.ready.specs.Ready.{unplaced, Shaped, ChosenBy, Readied};
 use paper::{Place, Sizes, Start};
 
 // 0 or the number of a refusal, and the start cube where it is 0.
-#[derive(Drop)]
+#[derive(Clone, Copy)]
 pub struct Ready {
     pub number: usize,
     pub cube: usize,

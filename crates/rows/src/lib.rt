@@ -1,4 +1,6 @@
 // Rows of samples: the sides of up to 64 of them as one word, those that are the fill as another, and what they say of rows of cubes.
+#![tactic(auto)]
+
 ghost use Rattle.std.specs.Prelude.{◌≡◌, List, ℤ, ◌+◌, ◌*◌, ◌≤◌, ◌<◌, length, get_or};
 ghost use Rattle.paper.specs.Lattice.{lattice, cube_no, crossed};
 ghost use Rattle.paper.specs.Sheet.{weight};
@@ -9,7 +11,7 @@ ghost use Rattle.rows.specs.Rows.{HasBoth, either_of, both_of, mixed_word, quad_
 use paper::{Place, Sizes};
 
 // The side rows of a row of cubes: at its low y and z, at its high y, at its high z, at both.
-#[derive(Drop)]
+#[derive(Clone, Copy)]
 pub struct Quad {
     pub a: u64,
     pub b: u64,

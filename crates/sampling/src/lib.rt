@@ -1,4 +1,6 @@
 // Rows made of the samples: their sides, and the cubes that may be visited.
+#![tactic(auto)]
+
 ghost use Rattle.std.specs.Prelude.{◌≡◌, ◌+◌, ◌*◌, ◌≤◌, ◌<◌, length};
 ghost use Rattle.lists.specs.Lists.{over};
 ghost use Rattle.paper.specs.Lattice.{lattice, air, is_fill};
@@ -11,7 +13,7 @@ use paper::Sizes;
 use rows::Quad;
 
 // A row of samples: which of them are air, and which are the fill.
-#[derive(Drop)]
+#[derive(Clone, Copy)]
 pub struct Twin {
     pub sides: u64,
     pub fills: u64,

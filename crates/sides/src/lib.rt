@@ -1,4 +1,6 @@
 // The side of a sample, whether it is the fill, a corner's side in a pattern, and digits of words.
+#![tactic(auto)]
+
 ghost use Rattle.std.specs.Prelude.{◌≡◌, ◌≤◌, ◌<◌};
 ghost use Rattle.paper.specs.Lattice.{air, is_fill};
 ghost use Rattle.sides.specs.Pattern.{bit_of, digit_of};

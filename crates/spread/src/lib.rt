@@ -1,4 +1,6 @@
 // The visited cubes by rows: the cubes of a row are the places of a word.
+#![tactic(auto)]
+
 ghost use Rattle.std.specs.Prelude.{◌≤◌, ◌<◌, length};
 ghost use Rattle.paper.specs.Lattice.{cubes, cube_no};
 ghost use Rattle.paper.specs.Room.{needed};

@@ -1,4 +1,6 @@
 // How many vertices and triangles the sheet of the visited cubes has, by rows of sides and rows of cubes.
+#![tactic(auto)]
+
 ghost use Rattle.std.specs.Prelude.{◌≡◌, ◌*◌, ◌≤◌, ◌<◌, length};
 ghost use Rattle.lists.specs.Lists.{range, count};
 ghost use Rattle.paper.specs.Within.{Sized};
@@ -9,7 +11,7 @@ use paper::Sizes;
 use rows::Quad;
 
 // How many vertices and triangles the sheet of the visited cubes has.
-#[derive(Drop)]
+#[derive(Clone, Copy)]
 pub struct Counts {
     pub vertices: usize,
     pub triangles: usize,

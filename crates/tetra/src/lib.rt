@@ -1,4 +1,6 @@
 // Six tetrahedra and sixteen rows: the edges and the triangles of a cube, by its pattern.
+#![tactic(auto)]
+
 ghost use Rattle.std.specs.Prelude.{◌≡◌, ◌+◌, ◌*◌, ◌≤◌, ◌<◌, ◌-◌, get_or};
 ghost use Rattle.paper.specs.Tables.{tri};
 ghost use Rattle.paper.specs.Within.{Sized};
@@ -9,7 +11,7 @@ ghost use Rattle.tetra.specs.Cut.{tet_corner, tet_corners, tet_steps, row_by, ro
 use paper::Sizes;
 
 // A triangle by its lattice edges.
-#[derive(Drop)]
+#[derive(Clone, Copy)]
 pub struct Triangle {
     pub a: usize,
     pub b: usize,

@@ -1,8 +1,9 @@
 // Document 02 (v), "Every piece on the tray": what a search for pieces answers. What is defined stands in specs, what follows in proofs.
+#![tactic(auto)]
 
 // 0 or the number of a refusal, and how many pieces there are.
 #[repr(C)]
-#[derive(Drop)]
+#[derive(Clone, Copy)]
 pub struct Found {
     pub number: usize,
     pub pieces: usize,

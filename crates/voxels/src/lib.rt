@@ -1,4 +1,6 @@
 // Greys, a level and a scale tested, and the sample of one voxel.
+#![tactic(auto)]
+
 ghost use Rattle.std.specs.Prelude.{◌≡◌, true, ◌≤◌, max, T, pos, neg_ℤ};
 ghost use Rattle.std.specs.Float.{binary32};
 ghost use Rattle.std.specs.Float.Ieee.{fits};

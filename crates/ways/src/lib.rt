@@ -1,4 +1,6 @@
 // The ways from a row of cubes: through the gates of the row, and through the doors to the four rows beside it, which then wait.
+#![tactic(auto)]
+
 ghost use Rattle.std.specs.Prelude.{◌≡◌, true, ◌+◌, ◌-◌, ◌≤◌, ◌<◌, length, get_or};
 ghost use Rattle.paper.specs.Within.{Sized};
 ghost use Rattle.bits.specs.Words.{less};
@@ -10,7 +12,7 @@ use paper::Sizes;
 use rows::Quad;
 
 // A way out of a row of cubes.
-#[derive(Drop)]
+#[derive(Clone, Copy)]
 pub struct Out {
     pub to: usize,
     pub door: u64,

@@ -1,6 +1,8 @@
 // Document 01's "Sheets worked by hand", each run through the entry points, one line an answer, in the document's order, with t by both
 // rules of document 02 (vi) behind document 01's. The stored run holds what the documents say of them. Where they name no sample's value,
 // air is 3 and solid is -1.
+#![tactic(auto)]
+
 ghost use Rattle.std.specs.Prelude.{◌≡◌, true, false, ◌≤◌};
 ghost use Rattle.paper.specs.Lattice.{air};
 
