@@ -11,8 +11,7 @@ use borrow.Author.Tests.{ne_eqb}
 use Rattle.lists.proofs.Closure.{bool_same}
 use Rattle.lists.proofs.Within.{eqb_of}
 use Rattle.paper.specs.Lattice.{is_fill}
-use Rattle.sides.proofs.is_fill.Statement.{statement}
-use Rattle.sides.proofs.is_fill.Tie as tie
+use Rattle.sides.proofs.is_fill.Goals as goal
 
 by_bits : (v : ℤ) → mag v < 32768 → eqb (of_z w16 v) 32768 ≡ is_fill v
 unfolding is_fill
@@ -22,8 +21,5 @@ by_bits (negsuc n) h =
     (λ t. let e = eqb→eq (65536 - suc n) 32768 t in eqb_of {a = n} {b = 32767} (omega arith))
     (λ t. let e = eqb→eq n 32767 t in eqb_of {a = 65536 - suc n} {b = 32768} (omega arith))
 
-returns : tie.Need-returns
+pub returns : goal.returns
 returns c = by_bits c.args.v c.ranges.v.sfits
-
-pub is_fill_spec : {M : Type 1} → statement M
-is_fill_spec = tie.close (tie.spec returns)
