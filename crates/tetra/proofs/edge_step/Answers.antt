@@ -1,0 +1,13 @@
+-- The step at e, or the first. Assumes nothing.
+use borrow.Author.Rules.{rules}
+use mathlib.Core.Path.{◌≡◌, ap}
+use Prim.Native.Nat.{ℕ, ◌+◌, ◌-◌, ◌*◌}
+use native.Mathlib.Omega.{arith}
+use lib.ListN.{get_or}
+use Rattle.tetra.proofs.edge_step.Goals as goal
+
+pub returns-then-e-eq0 : goal.returns-then-e-eq0
+returns-then-e-eq0 c =
+    let s = c in
+    let e : 6 * s.args.t ≡ 6 * s.args.t + (s.args.e - 1) = omega (arith, c.if-e-eq0.true) in
+    ap (λ (i : ℕ). get_or s.args.steps.now i 0) e

@@ -1,0 +1,23 @@
+-- The steps so far are the definition's. Assumes nothing.
+use mathlib.Core.Path.{◌≡◌, refl, ap, ◌∙◌}
+use mathlib.Core.List.{List}
+use Prim.Native.Nat.{ℕ, ◌+◌, ◌-◌, ◌*◌, ◌/◌, ◌%◌, ◌<◌}
+use native.Mathlib.Omega.{arith}
+use lib.Dec.{T}
+use lib.ListN.{get_or}
+use Rattle.lists.proofs.Filled.{Filled, filled_none, filled_more, filled_all}
+use Rattle.paper.specs.Tables as the
+use Rattle.tetra.specs.Cut.{tet_step, row_edge, row_steps}
+use Rattle.tetra.proofs.Tables.{tabled, tabled_at, row_number, number_lt, edge_six}
+use Rattle.tetra.proofs.Laws.{step_at}
+use Rattle.tetra.proofs.row_steps.Given as goal
+
+-- the entry at i, of the 36 steps
+abbrev pub entry : List ℕ → ℕ → ℕ
+entry steps i = get_or steps (6 * (i / 96) + row_edge (i % 96 / 6) (i % 96 % 6)) 0
+
+abbrev pub invariant-loop-i : goal.invariant-loop-i
+invariant-loop-i l = T (tabled row_number 16 6 l.rows) × Filled (entry l.steps) 576 l.i l.all
+
+abbrev pub decreases-loop-i : goal.decreases-loop-i
+decreases-loop-i l = 576 - l.i

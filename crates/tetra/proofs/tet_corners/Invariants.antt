@@ -1,0 +1,17 @@
+-- The corners so far are the definition's. Assumes nothing.
+use mathlib.Core.Path.{refl}
+use Prim.Native.Nat.{◌-◌, ◌/◌, ◌%◌}
+use native.Mathlib.Omega.{arith}
+use lib.Dec.{T}
+use Rattle.lists.proofs.Filled.{Filled, filled_none, filled_more, filled_all}
+use Rattle.paper.specs.Tables as the
+use Rattle.tetra.specs.Cut.{tet_at, tet_corner, tet_corners}
+use Rattle.tetra.proofs.Tables.{tabled, tabled_at}
+use Rattle.tetra.proofs.tet_corners.Given as goal
+
+abbrev pub invariant-loop-i : goal.invariant-loop-i
+invariant-loop-i l = let i = l.i in
+    T (tabled tet_corner 6 4 l.tets) × Filled (λ i. tet_corner (i / 4) (i % 4)) 24 i l.corners
+
+abbrev pub decreases-loop-i : goal.decreases-loop-i
+decreases-loop-i l = 24 - l.i
