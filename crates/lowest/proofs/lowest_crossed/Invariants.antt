@@ -1,0 +1,34 @@
+-- No cube before the row is wanted, and no cube of the row so far. Assumes nothing.
+use mathlib.Core.Path.{◌≡◌, refl, sym, ◌∙◌}
+use mathlib.Core.Bool.{false}
+use Prim.Native.Nat.{ℕ, ◌+◌, ◌-◌, ◌*◌, ◌≤◌, ◌<◌}
+use native.Mathlib.Omega.{arith}
+use borrow.Author.Count.{below_more}
+use Rattle.paper.specs.Lattice.{lattice, place, cube_no}
+use Rattle.paper.specs.Within.{CubeIn}
+use Rattle.bits.specs.Words.{bit}
+use Rattle.rows.specs.Rows.{looked_at}
+use Rattle.lowest.proofs.Search.{next, full, Seeking, Looking, none_looked, looked_le}
+use Rattle.lowest.proofs.Search.{wanted_bit, clear_row, none_lowest, found_lowest}
+use borrow.Author.Rules.{rules}
+use Rattle.lowest.proofs.lowest_crossed.Given as goal
+
+abbrev pub invariant-loop-x : goal.invariant-loop-x
+invariant-loop-x l = Looking l.sizes l.m l.n l.found l.x
+
+abbrev pub decreases-loop-x : goal.decreases-loop-x
+decreases-loop-x l = l.n - l.x
+
+abbrev pub invariant-loop-y : goal.invariant-loop-y
+invariant-loop-y l =
+    Seeking l.off l.sizes l.rows l.may (l.sizes.ny - 1) l.found l.y ((l.sizes.nx - 1) * (l.y + (l.sizes.ny - 1) * l.z))
+
+abbrev pub decreases-loop-y : goal.decreases-loop-y
+decreases-loop-y l = l.sizes.ny - 1 - l.y
+
+abbrev pub invariant-sought : goal.invariant-sought
+invariant-sought l =
+    Seeking l.off l.sizes l.rows l.may (l.sizes.nz - 1) l.found l.z ((l.sizes.nx - 1) * ((l.sizes.ny - 1) * l.z))
+
+abbrev pub decreases-sought : goal.decreases-sought
+decreases-sought l = l.sizes.nz - 1 - l.z
