@@ -12,17 +12,13 @@ use Rattle.lowest.proofs.Search.{next, full, Seeking, Looking, none_looked, look
 use Rattle.lowest.proofs.Search.{wanted_bit, clear_row, none_lowest, found_lowest}
 use borrow.Author.Rules.{rules}
 use Rattle.lowest.proofs.lowest_crossed.Goals as goal
-use Rattle.lowest.proofs.lowest_crossed.Goals.{At-loop-x, At-loop-y, Start, Then-has_bit}
-
-abbrev first : goal.At-loop-y
-    → goal.Start
-first c = (c)
+use Rattle.lowest.proofs.lowest_crossed.Goals.{At-loop-x, Then-has_bit}
 
 -- no more bits are looked at than there are cubes
 short : (c : goal.At-loop-x)
-    → c.to_look_at-n.result ≤ (first (goal.at.At-loop-x c).At-loop-y).args.sizes.nx - 1
+    → c.to_look_at-n.result ≤ ((c)).args.sizes.nx - 1
 short c =
-    let n = (first (goal.at.At-loop-x c).At-loop-y).args.sizes.nx - 1 in
+    let n = ((c)).args.sizes.nx - 1 in
     omega (arith, c.to_look_at-n.ensures, looked_le c.wanted_cubes-m.result n)
 
 pub cube_count-found-requires : goal.cube_count-found-requires
@@ -43,8 +39,8 @@ loop-y-init c =
 
 pub wanted_cubes-m-requires :
     goal.wanted_cubes-m-requires
-wanted_cubes-m-requires c = let s = first (goal.at.wanted_cubes-m-requires c).At-loop-y in record {
-      sized = (s.requires.0, s.requires.1, s.requires.2);
+wanted_cubes-m-requires c = record {
+      sized = (c.requires.0, c.requires.1, c.requires.2);
       y_bound = (omega arith, omega arith);
     }
 
@@ -56,7 +52,7 @@ loop-x-init c =
     record { upto = omega arith; none = c.loop-y.invariant.none; clear = λ i h. absurd (omega arith) }
 
 pub has_bit-requires : goal.has_bit-requires
-has_bit-requires c = let s = first (goal.at.has_bit-requires c).At-loop-y in omega (arith, short (goal.at.has_bit-requires c).At-loop-x, s.requires.0.x_high)
+has_bit-requires c = let s = (c) in omega (arith, short (goal.at.has_bit-requires c).At-loop-x, s.pre.0.x_high)
 
 pub overflow_step-x : goal.overflow_step-x
 overflow_step-x c = omega arith
@@ -82,7 +78,7 @@ loop-y-smaller c = omega arith
 
 pub loop-y-preserved : goal.loop-y-preserved
 loop-y-preserved c =
-    let a = (first (goal.at.loop-y-preserved c).At-loop-y).args in
+    let a = ((c)).args in
     let k = c.loop-y in
     let z = ((c)).sought.z in
     let m = c.wanted_cubes-m in
@@ -104,7 +100,7 @@ sought-smaller c = omega arith
 pub sought-preserved : goal.sought-preserved
 sought-preserved c =
     let k = c.loop-y in
-    let a = (first (goal.at.sought-preserved c).At-loop-y).args in
+    let a = c.args in
     let z = c.sought.z in
     let e = next (a.sizes.nx - 1) (a.sizes.ny - 1) ((a.sizes.nx - 1) * (k.y + (a.sizes.ny - 1) * z)) k.y z refl (omega arith) in
     record { upto = omega arith; none = k.invariant.none; clear = λ j h. k.invariant.clear j (omega arith) }
@@ -120,7 +116,7 @@ returns-after-sought c s h =
 -- the cube that is found
 cube_in : (c : goal.Then-has_bit)
     → let l = c in
-    CubeIn (first (goal.at.Then-has_bit c).At-loop-y).args.sizes (place l.loop-x.x l.loop-y.y ((l)).sought.z)
+    CubeIn ((l)).args.sizes (place l.loop-x.x l.loop-y.y ((l)).sought.z)
 cube_in c =
     let l = c in
     let k = l in
@@ -131,12 +127,12 @@ cube_in c =
     }
 
 pub cube_no-found-requires : goal.cube_no-found-requires
-cube_no-found-requires c = ((first (goal.at.cube_no-found-requires c).At-loop-y).requires.0, cube_in (goal.at.cube_no-found-requires c).Then-has_bit)
+cube_no-found-requires c = (((c)).requires.0, cube_in (goal.at.cube_no-found-requires c).Then-has_bit)
 
 pub returns-then-has_bit : goal.returns-then-has_bit
 unfolding cube_no
 returns-then-has_bit c s h =
-    let b = first (goal.at.returns-then-has_bit c).At-loop-y in
+    let b = (c) in
     let k = c.loop-y in
     let z = ((c)).sought.z in
     let m = c.wanted_cubes-m in
