@@ -37,6 +37,7 @@ pub record In (x n a : ℕ) : Type 0 where
   pub high : a < x + n
 
 pub T_true : (b : Bool) → T b → b ≡ true
+T_true false t = elim t [ ]
 T_true true t = refl
 
 pub within_in : (x n a : ℕ) → within x n a ≡ true → In x n a
@@ -103,6 +104,8 @@ same_eq : (a b : Bool) → T (same a b) → a ≡ b
 unfolding same
 same_eq true true t = refl
 same_eq false false t = refl
+same_eq false true t = elim t [ ]
+same_eq true false t = elim t [ ]
 
 sums : Bool → Bool → Bool → Bool → Bool → Bool → Bool
 sums a b c d e f = (a || b) && ((c || d) && (e || f))

@@ -11,51 +11,48 @@ use Rattle.blocks.proofs.Parts.{never}
 use Rattle.blocks.proofs.Alike.{part_at, rows_alike, rows_differ}
 use borrow.Author.Rules.{rules}
 use Rattle.blocks.proofs.one_side.Goals as goal
-use Rattle.blocks.proofs.one_side.Goals.{After-part_of, At-loop-c, Start}
-
-abbrev first : goal.At-loop-c → goal.Start
-first c = (masked (high ((c))))
+use Rattle.blocks.proofs.one_side.Goals.{After-part_of, At-loop-c}
 
 -- the bits looked at, the ends, and what each row must have
 abbrev bits_of : goal.At-loop-c → ℕ
-bits_of c = (masked (high ((c)))).mask-m.result
+bits_of c = c.mask-m.result
 
 abbrev y_end_of : goal.At-loop-c → ℕ
-y_end_of c = (high ((c))).least-y_end.result
+y_end_of c = c.least-y_end.result
 
 abbrev z_end_of : goal.At-loop-c → ℕ
-z_end_of c = ((c)).least-z_end.result
+z_end_of c = c.least-z_end.result
 
 abbrev like_of : goal.At-loop-c → ℕ
 like_of c = c.all_or_none-like.result
 
 -- the part of the row at v and u, and whether the block is on one side
 abbrev part_in : goal.At-loop-c → ℕ → ℕ → ℕ
-part_in c v u = let a = (first c).args in part_at a.sizes a.rows.now a.x (bits_of c) v u
+part_in c v u = let a = c.args in part_at a.sizes a.rows.now a.x (bits_of c) v u
 
 abbrev One : goal.At-loop-c → Type 0
-One c = let a = (first c).args in OneSide a.sizes a.rows.now (place a.x a.y a.z) a.size
+One c = let a = c.args in OneSide a.sizes a.rows.now (place a.x a.y a.z) a.size
 
 module _ (c : goal.At-loop-c) where
-  all_alike : ((v u : ℕ) → (first c).args.y ≤ v → v < y_end_of c → (first c).args.z ≤ u → u < z_end_of c → part_in c v u ≡ like_of c)
+  all_alike : ((v u : ℕ) → c.args.y ≤ v → v < y_end_of c → c.args.z ≤ u → u < z_end_of c → part_in c v u ≡ like_of c)
       → One c
-  all_alike c =
-      let a = (first c).args in
-      let m = masked (high ((c))) in
+  all_alike h =
+      let a = c.args in
+      let m = c in
       rows_alike a.sizes a.rows.now (place a.x a.y a.z) a.size m.least.result (y_end_of c) (z_end_of c)
-      (bits_of c) (like_of c) c.has_bit.result m.least.ensures (high ((c))).least-y_end.ensures
-      ((c)).least-z_end.ensures m.mask-m.ensures c.all_or_none-like.ensures h
+      (bits_of c) (like_of c) c.has_bit.result m.least.ensures c.least-y_end.ensures
+      c.least-z_end.ensures m.mask-m.ensures c.all_or_none-like.ensures h
 
-  one_differs : (v u : ℕ) → (first c).args.y ≤ v → v < y_end_of c → (first c).args.z ≤ u → u < z_end_of c
+  one_differs : (v u : ℕ) → c.args.y ≤ v → v < y_end_of c → c.args.z ≤ u → u < z_end_of c
       → (part_in c v u ≡ like_of c → ⊥) → One c → ⊥
   unfolding side_by
-  one_differs c u hv kv hu ku q =
-      let s = first c (goal.at.At-loop-c c).Start
+  one_differs v u hv kv hu ku q =
+      let s = c in
       let a = s.args in
       let l = c in
-      let m = masked ((l)) in
+      let m = l in
       rows_differ a.sizes a.rows.now (place a.x a.y a.z) a.size m.least.result (y_end_of c) (z_end_of c)
-      (bits_of c) (like_of c) l.has_bit.result m.least.ensures ((l)).least-y_end.ensures
+      (bits_of c) (like_of c) l.has_bit.result m.least.ensures l.least-y_end.ensures
       l.least-z_end.ensures m.mask-m.ensures l.all_or_none-like.ensures s.requires.2
       (l.has_bit.ensures ∙ ap (λ (w : ℕ). bit w a.x) l.row_of.ensures) v u hv kv hu ku q
 
@@ -100,19 +97,17 @@ loop-b-init c = (omega arith, λ v h k. absurd (omega arith))
 
 pub row_of-requires-in-loop-b : goal.row_of-requires-in-loop-b
 row_of-requires-in-loop-b c =
-    let s = first (goal.at.row_of-requires-in-loop-b c).At-loop-c in
-    let d = (c) in
-    (s.requires.0, s.requires.1, omega (arith, d.least-y_end.ensures.1), omega (arith, d.least-z_end.ensures.1))
+    (c.requires.0, c.requires.1, omega (arith, c.least-y_end.ensures.1), omega (arith, c.least-z_end.ensures.1))
 
 pub part_of-requires : goal.part_of-requires
-part_of-requires c = let s = first (goal.at.part_of-requires c).At-loop-c in omega (arith, s.requires.2.x, s.requires.0.x_high)
+part_of-requires c = omega (arith, c.requires.2.x, c.requires.0.x_high)
 
 -- the part that was looked at
 part_is : (c : goal.After-part_of) → let i = c in
     c.part_of.result ≡ part_in (goal.at.After-part_of c).At-loop-c i.loop-b.b i.loop-c.c
 part_is c =
     let o = c in
-    c.part_of.ensures ∙ ap (λ (w : ℕ). bit_and (w / 2 ^ (first (goal.at.After-part_of c).At-loop-c).args.x) (bits_of (goal.at.After-part_of c).At-loop-c)) c.row_of-in-loop-b.ensures
+    c.part_of.ensures ∙ ap (λ (w : ℕ). bit_and (w / 2 ^ o.args.x) (bits_of (goal.at.After-part_of c).At-loop-c)) c.row_of-in-loop-b.ensures
 
 pub returns-then-part_of-like : goal.returns-then-part_of-like
 returns-then-part_of-like c =
@@ -132,7 +127,7 @@ pub loop-b-preserved : goal.loop-b-preserved
 loop-b-preserved c =
     let b = c.loop-b in (
       omega arith,
-      below_more (λ (v : ℕ). (first (goal.at.loop-b-preserved c).At-loop-c).args.y ≤ v → part_in (goal.at.loop-b-preserved c).At-loop-c v c.loop-c.c ≡ like_of (goal.at.loop-b-preserved c).At-loop-c) b.b b.invariant.1
+      below_more (λ (v : ℕ). c.args.y ≤ v → part_in (goal.at.loop-b-preserved c).At-loop-c v c.loop-c.c ≡ like_of (goal.at.loop-b-preserved c).At-loop-c) b.b b.invariant.1
           (λ h. sym (part_is (goal.at.loop-b-preserved c).After-part_of) ∙ c.if-part_of-like.false),
     )
 
@@ -144,7 +139,7 @@ loop-c-smaller c = omega arith
 
 pub loop-c-preserved : goal.loop-c-preserved
 loop-c-preserved c =
-    let a = (first (goal.at.loop-c-preserved c).At-loop-c).args in
+    let a = c.args in
     let b = c.loop-b in
     let d = c.loop-c in (
       omega arith,

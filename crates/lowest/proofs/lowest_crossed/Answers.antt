@@ -52,7 +52,7 @@ loop-x-init c =
     record { upto = omega arith; none = c.loop-y.invariant.none; clear = λ i h. absurd (omega arith) }
 
 pub has_bit-requires : goal.has_bit-requires
-has_bit-requires c = let s = (c) in omega (arith, short (goal.at.has_bit-requires c).At-loop-x, s.pre.0.x_high)
+has_bit-requires c = omega (arith, short (goal.at.has_bit-requires c).At-loop-x, c.requires.0.x_high)
 
 pub overflow_step-x : goal.overflow_step-x
 overflow_step-x c = omega arith
