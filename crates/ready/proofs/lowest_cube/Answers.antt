@@ -12,8 +12,7 @@ use Rattle.paper.specs.Build.{named, start_of, starts, start_tests}
 use Rattle.paper.proofs.Starts.{some_lowest}
 use Rattle.rows.specs.Rows.{wanted}
 use Rattle.ready.specs.Ready.{unplaced, Chosen}
-use Rattle.ready.proofs.lowest_cube.Statement.{statement}
-use Rattle.ready.proofs.lowest_cube.Tie as tie
+use Rattle.ready.proofs.lowest_cube.Goals as goal
 
 -- what the tests and the start are without a place
 no_place : (z : Sizes) (off : Bool) → named z (unplaced off) ≡ true
@@ -27,12 +26,6 @@ some L false = some_lowest L.size (crossed L)
 start_is : (L : Lattice) (off : Bool) → lowest L.size (wanted off L) ≡ start_of L (unplaced off)
 start_is L true = refl
 start_is L false = refl
-
-lowest_crossed_requires : tie.Need-lowest-crossed-requires
-lowest_crossed_requires c κs = search rules
-
-cube_count_requires : tie.Need-cube-count-requires
-cube_count_requires c κs = search rules
 
 -- by the number found and that of the cubes
 module _ (L : Lattice) (off : Bool) (k n : ℕ) (found : k ≡ lowest L.size (wanted off L)) (all : n ≡ cubes L.size) where
@@ -60,22 +53,18 @@ module _ (L : Lattice) (off : Bool) (k n : ℕ) (found : k ≡ lowest L.size (wa
     below = λ e. omega (arith, all);
   }
 
-returns : tie.Need-returns
+pub returns-then-n-k : goal.returns-then-n-k
+returns-then-n-k c = record {
+  of = λ v h.
+      let off = c.args.off in
+      let found = c.lowest_crossed-k.ensures v h in
+      none_there _ off _ _ found c.cube_count-n.ensures.0 c.if-n-k.true;
+}
+
+pub returns : goal.returns
 returns c = record {
   of = λ v h.
-      let off = c.before.before.before.before.before.args.off in
-      let found = c.before.before.lowest-crossed.ensures v h in
-      none_there _ off _ _ found c.before.cube-count.ensures.0 c.if1.true;
+      let off = c.args.off in
+      let found = c.lowest_crossed-k.ensures v h in
+      one_there _ off _ _ found c.cube_count-n.ensures.0 (omega (arith, c.if-n-k.false));
 }
-
-returns_2 : tie.Need-returns-2
-returns_2 c = record {
-  of = λ v h.
-      let off = c.before.before.before.before.before.args.off in
-      let found = c.before.before.lowest-crossed.ensures v h in
-      one_there _ off _ _ found c.before.cube-count.ensures.0 (omega (arith, c.if1.false));
-}
-
-pub lowest_cube_spec : {M : Type 1} → statement M
-lowest_cube_spec =
-    tie.close (tie.spec lowest_crossed_requires cube_count_requires returns returns_2)
