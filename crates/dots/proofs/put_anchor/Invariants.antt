@@ -1,0 +1,17 @@
+-- After each kind its vertex stands behind those before it. Assumes nothing.
+use mathlib.Core.Path.{◌≡◌}
+use Prim.Native.Nat.{◌-◌}
+use native.Mathlib.Omega.{arith}
+use lib.ListN.{length}
+use Rattle.paper.specs.Lattice.{Lattice, lattice}
+use Rattle.dots.specs.Dots.{edge_at, edges_at, Drawn, drawn}
+use Rattle.dots.proofs.Laws.{Drawing, drawing_none, drawing_long, drawing_room, drawing_more, drawing_all}
+use borrow.Author.Rules.{rules}
+use Rattle.dots.proofs.put_anchor.Given as goal
+
+abbrev pub invariant-loop-kind : goal.invariant-loop-kind
+invariant-loop-kind l =
+    Drawing l.rule (lattice l.sizes l.samples) (edge_at l.ks l.base) 7 l.first l.at l.kind l.next (drawn l.initial.vertices l.initial.slots) (drawn l.vertices l.slots)
+
+abbrev pub decreases-loop-kind : goal.decreases-loop-kind
+decreases-loop-kind l = 7 - l.kind
