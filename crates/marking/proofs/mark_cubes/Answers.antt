@@ -9,12 +9,9 @@ use Rattle.blocks.proofs.Parts.{some}
 use Rattle.blocks.proofs.Boxes.{layers_begin, layers_next, layers_end, block_marked}
 use borrow.Author.Rules.{rules}
 use Rattle.marking.proofs.mark_cubes.Goals as goal
-use Rattle.marking.proofs.mark_cubes.Goals.{After-least-z_end, At-loop-c, Start}
+use Rattle.marking.proofs.mark_cubes.Goals.{After-least-z_end}
 
-abbrev first : goal.At-loop-c → goal.Start
-first c = c
-
--- the first cube is within the cut
+-- the cube is within the cut
 ends : (c : goal.After-least-z_end) → let s = c in
     (s.args.y ≤ c.least-y_end.result) × (s.args.z ≤ c.least-z_end.result)
 ends c =
@@ -56,10 +53,9 @@ loop-c-init c =
 
 pub mark_layer-requires : goal.mark_layer-requires
 mark_layer-requires c =
-    let s = first (goal.at.mark_layer-requires c).At-loop-c in
-    let p = s.pre in
-    let i = p.1.0 in record {
-      fact = (p.0.0, p.0.1, p.0.2, omega (arith, p.0.3, c.loop-c.invariant.2));
+    let p = c.requires in
+    let i = p.cube_in.0 in record {
+      fact = (p.fact.0, p.fact.1, p.fact.2, omega (arith, p.fact.3, c.loop-c.invariant.2));
       n_bound = (
         omega (arith, c.least-n.ensures.1, i.x),
         (ends (goal.at.mark_layer-requires c).After-least-z_end).0,
@@ -76,7 +72,7 @@ loop-c-smaller c = omega arith
 
 pub loop-c-preserved : goal.loop-c-preserved
 loop-c-preserved c =
-    let a = (first (goal.at.loop-c-preserved c).At-loop-c).args in
+    let a = c.args in
     let i = c.loop-c.invariant in
     let all = layers_next a.sizes a.rows.now a.may.now (place a.x a.y a.z) c.least-n.result
     (c.least-y_end.result - a.y) (c.loop-c.c - a.z) (c.loop-c.c + 1 - a.z) c.loop-c.c a.found.now c.loop-c.found _
@@ -88,8 +84,7 @@ shape_of-found c = c.loop-c.invariant.2
 
 pub returns : goal.returns
 returns c =
-    let s = first (goal.at.returns c).At-loop-c in
-    let a = s.args in
+    let a = c.args in
     let i = c.loop-c.invariant in
     let b = place a.x a.y a.z in
     let n = c.least-n.result in
@@ -97,5 +92,5 @@ returns c =
     let ze = c.least-z_end.result in
     let all = layers_end a.sizes a.rows.now a.may.now b n (ye - a.y) (c.loop-c.c - a.z) (ze - a.z) a.found.now
     c.loop-c.found (omega (arith, i.1)) i.3 in
-    block_marked a.sizes a.rows.now a.may.now b s.pre.1.0 a.size n ye ze c.least-n.ensures
+    block_marked a.sizes a.rows.now a.may.now b c.requires.cube_in.0 a.size n ye ze c.least-n.ensures
     c.least-y_end.ensures c.least-z_end.ensures (ends (goal.at.returns c).After-least-z_end).0 (ends (goal.at.returns c).After-least-z_end).1 a.found.now c.loop-c.found all
