@@ -1,5 +1,4 @@
 -- No triangle is bad where all numbers are below V. Assumes nothing.
-use borrow.Author.Rules.{rules}
 use borrow.Author.Tests.{lt-leb}
 use mathlib.Core.Path.{◌≡◌, ◌∙◌}
 use mathlib.Core.Bool.{false}
@@ -9,8 +8,7 @@ use native.Mathlib.Omega.{arith}
 use lib.ListN.{get_or}
 use Rattle.paper.specs.File.{bad_triangle}
 use Rattle.layout.proofs.Trailer.{bad_is, bad_missing}
-use Rattle.layout.proofs.first_bad_in.Statement.{statement}
-use Rattle.layout.proofs.first_bad_in.Tie as tie
+use Rattle.layout.proofs.first_bad_in.Goals as goal
 
 good : (nv nt : ℕ) (ts : List ℕ) → ((j : ℕ) → j < 3 * nt → get_or ts j 0 < nv) → (k : ℕ) → k < nt → bad_triangle nv ts k ≡ false
 good nv nt ts h k l =
@@ -21,17 +19,5 @@ good nv nt ts h k l =
       lt-leb nv (get_or ts (3 * k + 2) 0) (h (3 * k + 2) (omega arith)),
     )
 
-all_below_requires : tie.Need-all-below-requires
-all_below_requires c κs = search rules
-
-returns : tie.Need-returns
-returns c = bad_missing _ _ _ (good _ _ _ (c.before.all-below.ensures c.if1.true))
-
-sought_bad_requires : tie.Need-sought-bad-requires
-sought_bad_requires c κs = search rules
-
-returns_2 : tie.Need-returns-2
-returns_2 c = search rules
-
-pub first_bad_in_spec : {M : Type 1} → statement M
-first_bad_in_spec = tie.close (tie.spec all_below_requires returns sought_bad_requires returns_2)
+pub returns-then-below : goal.returns-then-below
+returns-then-below c = bad_missing _ _ _ (good _ _ _ (c.all_below-below.ensures c.if-below.true))
