@@ -8,7 +8,6 @@ use Rattle.lists.specs.Bytes.{field}
 use Rattle.layout.proofs.Flags.{fails, passes}
 use Rattle.facets.specs.Steps.{is_image}
 use Rattle.facets.specs.Facets.{corner_at, corner_stands}
-use borrow.Author.Rules.{rules}
 use Rattle.facet_reader.proofs.corner_taken.Goals as goal
 use Rattle.facet_reader.proofs.corner_taken.Goals.{After-bits_stand, After-bits_stand-2}
 

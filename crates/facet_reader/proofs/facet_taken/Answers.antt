@@ -1,5 +1,4 @@
 -- `facets::facet_taken` meets its contract: three tests, one after the other. Assumes nothing.
-use borrow.Author.Rules.{rules}
 use Rattle.facets.specs.Facets.{facet_at, facet_stands}
 use Rattle.layout.proofs.Flags.{fails, passes}
 use Rattle.facet_reader.proofs.facet_taken.Goals as goal

@@ -4,7 +4,6 @@ use Prim.Native.Nat.{ℕ}
 use Rattle.facets.specs.Steps.{is_image}
 use lib.Ieee.{binary32, of_bits}
 use Rattle.facets.proofs.Images.{image_number, number_bits}
-use borrow.Author.Rules.{rules}
 use Rattle.facet_reader.proofs.float_at.Goals as goal
 
 pub float_from_bits-result : goal.float_from_bits-result

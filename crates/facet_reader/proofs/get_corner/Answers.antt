@@ -2,7 +2,6 @@
 use native.Mathlib.Omega.{arith}
 use Rattle.facets.specs.Facets.{corner_at}
 use Rattle.facets.proofs.Facets.{floats_stand}
-use borrow.Author.Rules.{rules}
 use Rattle.facet_reader.proofs.get_corner.Goals as goal
 
 pub float_at-requires : goal.float_at-requires

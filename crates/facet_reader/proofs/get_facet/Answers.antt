@@ -2,7 +2,6 @@
 use native.Mathlib.Omega.{arith}
 use Rattle.facets.specs.Facets.{facet_at}
 use Rattle.facets.proofs.Facets.{corners_stand}
-use borrow.Author.Rules.{rules}
 use Rattle.facet_reader.proofs.get_facet.Goals as goal
 
 pub get_corner-a-requires : goal.get_corner-a-requires

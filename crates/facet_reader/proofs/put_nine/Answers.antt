@@ -1,7 +1,6 @@
 -- `facets::put_nine` meets its contract: three stores, one after the other. Assumes nothing.
 use native.Mathlib.Omega.{arith}
 use Rattle.facets.proofs.Facets.{corners_stand, nine}
-use borrow.Author.Rules.{rules}
 use Rattle.facet_reader.proofs.put_nine.Goals as goal
 
 pub put_words-requires : goal.put_words-requires

@@ -9,7 +9,6 @@ use mir.Facts.{to_z-of_z}
 use Rattle.lists.proofs.Stores.{sets3}
 use Rattle.facets.specs.Facets.{corner_words}
 use Rattle.facets.proofs.Facets.{floats_stand}
-use borrow.Author.Rules.{rules}
 use Rattle.facet_reader.proofs.put_words.Goals as goal
 
 -- a number as it is stored
