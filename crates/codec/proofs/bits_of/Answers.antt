@@ -7,7 +7,6 @@ use mir.Val.{to_z, of_z}
 use mir.Facts.{to_z_pos}
 use Rattle.paper.proofs.Ints.{widens, widened}
 use Rattle.codec.proofs.Signed.{raised, raised_is, raised_small, raised_bits}
-use borrow.Author.Rules.{rules}
 use Rattle.codec.proofs.bits_of.Goals as goal
 use Rattle.codec.proofs.bits_of.Goals.{Start}
 

@@ -1,6 +1,5 @@
 -- `codec::byte` meets its contract: an element of a `&[u8]` is below 256. Assumes nothing.
 use native.Mathlib.Omega.{arith}
-use borrow.Author.Rules.{rules}
 use Rattle.codec.proofs.byte.Goals as goal
 
 pub overflow_cast-result : goal.overflow_cast-result

@@ -2,7 +2,6 @@
 use native.Mathlib.Omega.{arith}
 use Prim.Native.Nat.{◌+◌}
 use Rattle.codec.proofs.Bytes.{field_more, field_none}
-use borrow.Author.Rules.{rules}
 use Rattle.codec.proofs.get_u32.Goals as goal
 
 pub returns : goal.returns

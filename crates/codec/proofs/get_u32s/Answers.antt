@@ -1,9 +1,9 @@
 -- `codec::get_u32s` meets its contract. The loop's invariant: the numbers passed are stored, and nothing else. Assumes nothing.
 use mathlib.Core.Path.{◌≡◌, refl, ap, ◌∙◌}
-use Prim.Native.Nat.{ℕ, ◌-◌, ◌≤◌}
+use Prim.Native.Nat.{ℕ}
 use native.Mathlib.Omega.{arith}
 use mathlib.Core.List.{map}
-use lib.ListN.{length, length-set}
+use lib.ListN.{length-set}
 use lib.Seq.{sets}
 use Rattle.lists.specs.Lists.{range}
 use Rattle.codec.proofs.Runs.{word_at, get_more}

@@ -1,12 +1,11 @@
 -- `codec::get_u32s` meets its contract. The loop's invariant: the numbers passed are stored, and nothing else. Assumes nothing.
-use mathlib.Core.Path.{◌≡◌, refl, ap, ◌∙◌}
+use mathlib.Core.Path.{◌≡◌}
 use Prim.Native.Nat.{ℕ, ◌-◌, ◌≤◌}
-use native.Mathlib.Omega.{arith}
 use mathlib.Core.List.{map}
-use lib.ListN.{length, length-set}
+use lib.ListN.{length}
 use lib.Seq.{sets}
 use Rattle.lists.specs.Lists.{range}
-use Rattle.codec.proofs.Runs.{word_at, get_more}
+use Rattle.codec.proofs.Runs.{word_at}
 use Rattle.codec.proofs.get_u32s.Given as goal
 
 abbrev pub invariant-loop-i : goal.invariant-loop-i

@@ -2,7 +2,6 @@
 use mathlib.Core.Path.{ap, ◌∙◌}
 use mir.Facts.{to_z-of_z}
 use Rattle.paper.specs.File.{bits32}
-use borrow.Author.Rules.{rules}
 use Rattle.codec.proofs.put_i32.Goals as goal
 
 pub returns : goal.returns

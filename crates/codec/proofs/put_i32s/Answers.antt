@@ -1,12 +1,12 @@
 -- `codec::put_i32s` meets its contract. The loop's invariant: the bytes of the numbers passed are stored, and
 -- nothing else. Assumes nothing.
 use mathlib.Core.Path.{◌≡◌, refl, ap, ◌∙◌}
-use Prim.Native.Nat.{ℕ, ◌-◌, ◌≤◌}
+use Prim.Native.Nat.{ℕ}
 use native.Mathlib.Omega.{arith}
 use mir.Syntax.{w32}
 use mir.Facts.{to_z-of_z}
 use lib.IntN.{pos}
-use lib.ListN.{length, get_or, take}
+use lib.ListN.{get_or, take}
 use lib.Seq.{sets}
 use Rattle.lists.specs.Lists.{each}
 use Rattle.codec.specs.Words.{word_bytes}
@@ -44,7 +44,7 @@ loop-i-preserved c =
     let fits = c.put_i32-arg-in-loop-i-1.given in
     let r = to_z-of_z {w = w32} {z = get_or a.v.now l.i (pos 0)} (record { sfits = fits }) in (
       omega arith,
-      c.put_i32.auto.0 ∙ l.invariant.1,
+      c.put_i32.auto.out ∙ l.invariant.1,
       (rw r at c.put_i32.ensures)
           ∙ rw l.invariant.2 (put_more word_bytes 4 (λ w. refl) a.out.now a.at a.v.now (pos 0) l.i (omega arith)),
     )

@@ -1,15 +1,10 @@
 -- `codec::put_i32s` meets its contract. The loop's invariant: the bytes of the numbers passed are stored, and
-use mathlib.Core.Path.{◌≡◌, refl, ap, ◌∙◌}
-use Prim.Native.Nat.{ℕ, ◌-◌, ◌≤◌}
-use native.Mathlib.Omega.{arith}
-use mir.Syntax.{w32}
-use mir.Facts.{to_z-of_z}
-use lib.IntN.{pos}
-use lib.ListN.{length, get_or, take}
+use mathlib.Core.Path.{◌≡◌}
+use Prim.Native.Nat.{◌-◌, ◌≤◌}
+use lib.ListN.{length, take}
 use lib.Seq.{sets}
 use Rattle.lists.specs.Lists.{each}
 use Rattle.codec.specs.Words.{word_bytes}
-use Rattle.codec.proofs.Runs.{put_more}
 use Rattle.codec.proofs.put_i32s.Given as goal
 
 abbrev pub invariant-loop-i : goal.invariant-loop-i

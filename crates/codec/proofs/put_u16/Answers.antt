@@ -2,7 +2,6 @@
 use native.Mathlib.Omega.{arith}
 use lib.ListN.{length-set}
 use Rattle.lists.proofs.Stores.{sets2}
-use borrow.Author.Rules.{rules}
 use Rattle.codec.proofs.put_u16.Goals as goal
 
 pub bounds-out-at-2 : goal.bounds-out-at-2

@@ -1,9 +1,9 @@
 -- `codec::put_u32s` meets its contract. The loop's invariant: the bytes of the numbers passed are stored, and
 -- nothing else. Assumes nothing.
 use mathlib.Core.Path.{◌≡◌, refl, ap, ◌∙◌}
-use Prim.Native.Nat.{ℕ, ◌-◌, ◌≤◌}
+use Prim.Native.Nat.{ℕ}
 use native.Mathlib.Omega.{arith}
-use lib.ListN.{length, take}
+use lib.ListN.{take}
 use lib.Seq.{sets}
 use Rattle.lists.specs.Lists.{each}
 use Rattle.lists.specs.Bytes.{le}
@@ -39,7 +39,7 @@ loop-i-preserved c =
     let a = c.args in
     let l = c.loop-i in (
       omega arith,
-      c.put_u32.auto.0 ∙ l.invariant.1,
+      c.put_u32.auto.out ∙ l.invariant.1,
       c.put_u32.ensures
           ∙ rw l.invariant.2 (put_more (le 4) 4 (λ w. refl) a.out.now a.at a.v.now 0 l.i (omega arith)),
     )

@@ -1,12 +1,10 @@
 -- `codec::put_u32s` meets its contract. The loop's invariant: the bytes of the numbers passed are stored, and
-use mathlib.Core.Path.{◌≡◌, refl, ap, ◌∙◌}
-use Prim.Native.Nat.{ℕ, ◌-◌, ◌≤◌}
-use native.Mathlib.Omega.{arith}
+use mathlib.Core.Path.{◌≡◌}
+use Prim.Native.Nat.{◌-◌, ◌≤◌}
 use lib.ListN.{length, take}
 use lib.Seq.{sets}
 use Rattle.lists.specs.Lists.{each}
 use Rattle.lists.specs.Bytes.{le}
-use Rattle.codec.proofs.Runs.{put_more}
 use Rattle.codec.proofs.put_u32s.Given as goal
 
 abbrev pub invariant-loop-i : goal.invariant-loop-i
