@@ -5,13 +5,13 @@ use mathlib.Core.List.{List, [], ◌∷◌, ◌++◌, map}
 use Prim.Native.Nat.{ℕ, ◌+◌, ◌-◌, ◌*◌, ◌/◌, ◌%◌, ◌<◌, min}
 use native.Mathlib.Omega.{arith}
 use lib.ListN.{get_or}
-use Rattle.lists.specs.Lists.{each, first}
+use Rattle.lists.specs.Lists.{each}
 use Rattle.paper.specs.declared.Sizes.{Sizes}
 use Rattle.paper.specs.declared.Place.{Place}
 use Rattle.paper.specs.Lattice.{place, corner, sample_no, sample_at}
 use Rattle.paper.specs.Within.{SampleIn}
 use Rattle.paper.specs.Tables.{Ends, Tet, Tri, ends, tri, tets, rows, tet_edges, low, kind_of}
-use Rattle.paper.specs.Sheet.{edge_from, edge_no, anchor_of, kind_in, tet_edge, tri_edges, row_at, row_of, triangles_at}
+use Rattle.paper.specs.Sheet.{edge_no, anchor_of, kind_in, tet_edge, tri_edges, row_at, row_of, triangles_at}
 use Rattle.paper.proofs.Numbers.{sample_place}
 use Rattle.paper.proofs.Tables.{kind_lt}
 use Rattle.paper.proofs.Listing.{named}

@@ -62,6 +62,7 @@ module _ (es : List ℕ) (distinct : Unique es) (ts : List Tri) (below : (t : Tr
       go t h (here e) = subst (λ (k : Arrow). (k.from < length es) × (k.to < length es)) (sym e) (omega (arith, h))
       go t h (there (here e)) = subst (λ (k : Arrow). (k.from < length es) × (k.to < length es)) (sym e) (omega (arith, h))
       go t h (there (there (here e))) = subst (λ (k : Arrow). (k.from < length es) × (k.to < length es)) (sym e) (omega (arith, h))
+      go t h (there (there (there i))) = elim i [ ]
 
   pub times_below : (i j : ℕ) → 0 < times ts i j → (i < length es) × (j < length es)
   unfolding times

@@ -7,7 +7,6 @@ use mathlib.Core.Logic.{inl, inr}
 use Prim.Native.Nat.{ℕ, ◌+◌, ◌-◌, ◌/◌, ◌%◌, ◌<◌, min}
 use native.Mathlib.Omega.{arith}
 use lib.Dec.{T, eqb, eqb→eq, eqb_refl}
-use lib.ListN.{get_or}
 use borrow.Author.Tests.{eqb-false}
 use Rattle.lists.specs.Lists.{any, all}
 use Rattle.lists.proofs.Member.{t_to_eq, and_both, and_left, and_right}
@@ -16,7 +15,7 @@ use Rattle.paper.specs.declared.Sizes.{Sizes}
 use Rattle.paper.specs.declared.Place.{Place}
 use Rattle.paper.specs.Lattice.{place, corner, in_lattice}
 use Rattle.paper.specs.Within.{CubeIn}
-use Rattle.paper.specs.Sheet.{anchor_of, kind_in, ends_of, first_end, second_end}
+use Rattle.paper.specs.Sheet.{ends_of, first_end, second_end}
 use Rattle.paper.proofs.Visits.{in_lattice_law, lattice_in}
 use Rattle.pairing.specs.Visitable.{edge_ends, in_outer_face, outer, meet, shared, in_unshared, unshared}
 use Rattle.lists.proofs.Within.{t_to_false, eqb_of, any_member, all_in, in_all_test, all_map}
