@@ -23,8 +23,6 @@ abbrev pub invariant-loop-c : goal.invariant-loop-c
 invariant-loop-c l =
     (l.z ≤ l.c) × ((u : ℕ) → u < l.c → l.z ≤ u → (v : ℕ) → v < l.y_end → l.y ≤ v → part_at l.sizes l.rows l.x l.m v u ≡ l.like)
 
--- ── stages ──
 abbrev pub decreases-loop-c : goal.decreases-loop-c
 decreases-loop-c l = l.z_end - l.c
 
--- ── stages ──

@@ -11,8 +11,6 @@ abbrev pub invariant-loop-z : goal.invariant-loop-z
 invariant-loop-z l =
     (l.z ≤ l.sizes.nz - 1) × Walk l.sizes l.rows l.may 0 (row_start l.sizes 0 l.z) (held l.initial.vis l.initial.waiting l.initial.list 0) (held l.vis l.waiting l.list l.count) l.initial.due l.due
 
--- ── stages ──
 abbrev pub decreases-loop-z : goal.decreases-loop-z
 decreases-loop-z l = l.sizes.nz - 1 - l.z
 
--- ── stages ──

@@ -16,8 +16,6 @@ invariant-loop-y l =
     (l.y ≤ l.sizes.ny - 1)
     × Walk l.sizes l.rows l.may (row_start l.sizes 0 l.z) (row_start l.sizes l.y l.z) (held l.initial.vis l.initial.waiting l.initial.list l.n) (held l.vis l.waiting l.list l.count) l.initial.due l.due
 
--- ── stages ──
 abbrev pub decreases-loop-y : goal.decreases-loop-y
 decreases-loop-y l = l.sizes.ny - 1 - l.y
 
--- ── stages ──

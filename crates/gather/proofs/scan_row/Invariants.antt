@@ -16,8 +16,6 @@ invariant-loop-x l =
     (l.x ≤ l.sizes.nx - 1)
     × Walk l.sizes l.rows l.may (row_start l.sizes l.y l.z) (row_start l.sizes l.y l.z + l.x) (held l.initial.vis l.initial.waiting l.initial.list l.n) (held l.vis l.waiting l.list l.count) l.initial.due l.due
 
--- ── stages ──
 abbrev pub decreases-loop-x : goal.decreases-loop-x
 decreases-loop-x l = l.sizes.nx - 1 - l.x
 
--- ── stages ──

@@ -15,8 +15,6 @@ invariant-loop-c l =
     (l.z ≤ l.c) × (l.c ≤ l.z_end) × (length l.found ≡ length l.initial.found)
     × Marked l.sizes (crossed_where l.sizes l.rows l.may (in_box (place l.x l.y l.z) l.n (l.y_end - l.y) (l.c - l.z))) l.initial.found l.found
 
--- ── stages ──
 abbrev pub decreases-loop-c : goal.decreases-loop-c
 decreases-loop-c l = l.z_end - l.c
 
--- ── stages ──

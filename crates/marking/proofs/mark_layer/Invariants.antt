@@ -14,8 +14,6 @@ invariant-loop-b l =
     (l.y ≤ l.b) × (l.b ≤ l.end) × (length l.found ≡ length l.initial.found)
     × Marked l.sizes (crossed_where l.sizes l.rows l.may (in_box (place l.x l.y l.z) l.n (l.b - l.y) 1)) l.initial.found l.found
 
--- ── stages ──
 abbrev pub decreases-loop-b : goal.decreases-loop-b
 decreases-loop-b l = l.end - l.b
 
--- ── stages ──

@@ -1,0 +1,19 @@
+-- After each layer its slots are numbered behind those before it. Assumes nothing.
+use mathlib.Core.Path.{◌≡◌, refl, ◌∙◌}
+use mathlib.Core.List.{List}
+use Prim.Native.Nat.{ℕ, ◌-◌}
+use native.Mathlib.Omega.{arith}
+use lib.ListN.{length}
+use Rattle.paper.specs.Lattice.{lattice}
+use Rattle.dots.specs.Dots.{layer_edges, edges_by}
+use Rattle.dots.proofs.Laws.{Numbering, numbering_none, numbering_long, numbering_few, numbering_more, numbering_all, crossed_part}
+use Rattle.dots.proofs.Rows.{all_few}
+use borrow.Author.Rules.{rules}
+use Rattle.check_slots.proofs.number_layers.Given as goal
+
+abbrev pub invariant-loop-z : goal.invariant-loop-z
+invariant-loop-z l =
+    Numbering (layer_edges l.sizes l.rows l.vis) l.sizes.nz 1 l.z l.next l.initial.slots l.slots × (length l.buffer ≡ length l.initial.buffer)
+
+abbrev pub decreases-loop-z : goal.decreases-loop-z
+decreases-loop-z l = l.sizes.nz - l.z

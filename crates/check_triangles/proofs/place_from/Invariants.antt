@@ -1,0 +1,15 @@
+-- The search from c on finds what the search from the start finds. Assumes nothing.
+use mathlib.Core.Path.{◌≡◌, refl, sym, ◌∙◌}
+use Prim.Native.Nat.{◌-◌, ◌≤◌}
+use native.Mathlib.Omega.{arith}
+use Rattle.tetra.specs.Cut.{tri_of}
+use Rattle.check_triangles.specs.Triples.{place_from}
+use Rattle.check_triangles.proofs.Laws.{from_here, from_next, from_end}
+use borrow.Author.Rules.{rules}
+use Rattle.check_triangles.proofs.place_from.Given as goal
+
+abbrev pub invariant-loop-c : goal.invariant-loop-c
+invariant-loop-c l = (l.c ≤ 13) × (place_from l.sizes l.base l.m (tri_of l.t) l.from ≡ place_from l.sizes l.base l.m (tri_of l.t) l.c)
+
+abbrev pub decreases-loop-c : goal.decreases-loop-c
+decreases-loop-c l = 12 - l.c
