@@ -1,20 +1,20 @@
 -- Document 02 (iv): what the tests of a start say of the cubes, and that the lowest by name gives what no start gave before. Assumes
 -- nothing.
-use mathlib.Core.Path.{◌≡◌, refl, sym, ap, subst, ◌∙◌}
+use mathlib.Core.Path.{◌≡◌, ap, subst, ◌∙◌}
 use mathlib.Core.Bool.{Bool, true, false}
 use mathlib.Core.List.{List, [], ◌∷◌}
-use Prim.Native.Nat.{ℕ, ◌≤◌, ◌<◌}
+use Prim.Native.Nat.{ℕ, ◌<◌}
 use native.Mathlib.Omega.{arith}
 use lib.Dec.{T}
-use Rattle.lists.specs.Lists.{range, any}
+use Rattle.lists.specs.Lists.{range}
 use Rattle.lists.proofs.Member.{t_to_eq, any_in, in_any, in_range, range_in}
 use Rattle.lists.proofs.Within.{t_to_false}
 use Rattle.paper.specs.declared.Built.{Built}
 use Rattle.paper.specs.declared.Verdict.{Verdict}
 use Rattle.paper.specs.declared.Start.TheVariants.{Unnamed, Lowest}
 use Rattle.paper.specs.declared.Rule.{Rule}
-use Rattle.paper.specs.Lattice.{Lattice, cubes, crossed, lowest, may_start}
-use Rattle.paper.specs.Tests.{Test, test, verdict, judge}
+use Rattle.paper.specs.Lattice.{Lattice, cubes, lowest, may_start}
+use Rattle.paper.specs.Tests.{test, verdict, judge}
 use Rattle.paper.specs.Room.{Work, Lengths}
 use Rattle.paper.specs.Build.{Lent, start_of, starts, shape_tests, start_tests, sample_tests, build_number, built, lent_after, Builds}
 use Rattle.paper.specs.Check.{checked, checked_after, Checks}
