@@ -29,7 +29,7 @@ w s = work (words_by s.args.sizes s.args.rows.now s.args.vis.now) s.args.waiting
 -- ── the records are compared ──
 
 slots_left : (c : goal.After-first_bad-i) → let s = c in
-    Beyond (needed_slots s.args.sizes) s.args.slots.now c.first_bad-i.new.1.1.1.1.0
+    Beyond (needed_slots s.args.sizes) s.args.slots.now c.first_bad-i.new.slots
 slots_left c =
     let s = c in
     slots_beyond s.args.rule (L (goal.at.After-first_bad-i c).Start) (file_vertices (bs (goal.at.After-first_bad-i c).Start)) (file_v (bs (goal.at.After-first_bad-i c).Start)) s.args.slots.now _ c.first_bad-i.result
@@ -43,7 +43,7 @@ module _ (c : goal.Else-i-nv) where
 -- ── and so are the triangles ──
 
 waiting_left : (c : goal.After-first_bad-j) → let s = c in
-    Beyond (needed s.args.sizes) s.args.waiting.now c.first_bad-j.new.1.1.1.1.0
+    Beyond (needed s.args.sizes) s.args.waiting.now c.first_bad-j.new.seen
 waiting_left c =
     let s = c in
     seen_beyond s.args.sizes (w (goal.at.After-first_bad-j c).Start).words (file_vertices (bs (goal.at.After-first_bad-j c).Start)) (file_triangles (bs (goal.at.After-first_bad-j c).Start)) (file_t (bs (goal.at.After-first_bad-j c).Start)) s.args.waiting.now _

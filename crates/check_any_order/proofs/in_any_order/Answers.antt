@@ -36,10 +36,10 @@ module _ (c : goal.After-number_slots) where
   z = c.args.sizes
 
   abbrev waiting : List ℕ
-  waiting = c.clear_list.new.0
+  waiting = c.clear_list.new.list
 
   abbrev slots : List ℕ
-  slots = c.number_slots.new.1.1.1.1.0
+  slots = c.number_slots.new.slots
 
   waiting_is : waiting ≡ cleared (needed z) c.args.waiting.now
   waiting_is =
