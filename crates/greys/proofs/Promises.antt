@@ -3,7 +3,7 @@
 use mathlib.Core.Path.{◌≡◌, refl, sym, subst, ap, ◌∙◌}
 use mathlib.Core.Bool.{Bool, true, false, not, cond, ◌&&◌}
 use mathlib.Core.List.{List, ◌++◌, map, append-nil}
-use Prim.Native.Nat.{ℕ, zero, suc, ◌+◌, ◌*◌, ◌/◌, ◌<◌, ◌≤◌, min, max}
+use Prim.Native.Nat.{ℕ, zero, suc, ◌*◌, ◌/◌, ◌<◌, ◌≤◌, min, max}
 use native.Mathlib.Nat.{mul_right_comm, zero-mul, mul-pos}
 use native.Mathlib.Omega.{arith}
 use borrow.Author.Tests.{lt-ltb, le-ltb, ne_eqb, eq-eqb}
@@ -17,7 +17,6 @@ use lib.Ieee.Exact.{HasValue}
 use lib.Ieee.Fits.{up_pos, down_pos, div-fits}
 use lib.Ieee.Nearest.{div_same}
 use lib.Ieee.Positive.{first_pos}
-use Rattle.lists.specs.Lists.{over}
 use Rattle.lists.proofs.Runs.{get_d_map_lt}
 use Rattle.paper.specs.declared.Verdict.{Verdict}
 use Rattle.paper.specs.Room.{output_after}
