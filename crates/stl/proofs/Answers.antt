@@ -9,7 +9,7 @@ use lib.Dec.{leb, eqb}
 use lib.IntN.{ℤ}
 use lib.ListN.{length}
 use lib.Seq.{sets}
-use Rattle.lists.specs.Lists.{range, each, first, over}
+use Rattle.lists.specs.Lists.{range, each, over}
 use Rattle.lists.proofs.Firsts.{first_before, first_missing}
 use Rattle.lists.proofs.Stores.{sets_front}
 use Rattle.paper.specs.declared.Verdict.{Verdict}
