@@ -1,0 +1,19 @@
+-- `lister::get_i16s` meets its contract. The loop's invariant: the numbers passed are stored, and nothing else. Assumes nothing.
+use mathlib.Core.Path.{◌≡◌, refl, ap, ◌∙◌}
+use Prim.Native.Nat.{ℕ, ◌-◌, ◌≤◌}
+use native.Mathlib.Omega.{arith}
+use mir.Syntax.{w16}
+use mir.Facts.{to_z-of_z}
+use mathlib.Core.List.{map}
+use lib.ListN.{length, length-set}
+use lib.Seq.{sets}
+use Rattle.lists.specs.Lists.{range}
+use Rattle.lister.specs.Listing.{signed16}
+use Rattle.codec.proofs.Runs.{word_at, get_more}
+use Rattle.lister.proofs.get_i16s.Given as goal
+
+abbrev pub invariant-loop-i : goal.invariant-loop-i
+invariant-loop-i l = (l.i ≤ l.n) × (length l.v ≡ length l.initial.v) × (l.v ≡ sets l.initial.v 0 (map (word_at signed16 2 l.s l.at) (range 0 l.i)))
+
+abbrev pub decreases-loop-i : goal.decreases-loop-i
+decreases-loop-i l = l.n - l.i
