@@ -1,6 +1,6 @@
 -- Membership as a fact, `In a l`: of the lists that the definitions make, and what holds of each member. Assumes nothing.
 use mathlib.Core.Path.{◌≡◌, refl, sym, ap, ◌∙◌, subst}
-use mathlib.Core.Bool.{Bool, true, false, not, ◌&&◌, ◌||◌, and_assoc}
+use mathlib.Core.Bool.{Bool, true, false, ◌&&◌, ◌||◌, and_assoc}
 use mathlib.Core.List.Memᴰ.{head as here}
 use mathlib.Core.List.Memᴰ.{tail as there}
 use mathlib.Core.List.{List, [], ◌∷◌, ◌++◌, map, Memᴰ as In}
@@ -9,7 +9,7 @@ use mathlib.Core.List.{map-append}
 use mathlib.Core.Logic.{◌⊎◌, inl, inr}
 use Prim.Native.Nat.{ℕ, zero, suc, ◌<◌}
 use native.Mathlib.Omega.{arith}
-use lib.Dec.{T, eqb, eqb→eq, eqb_refl, T_not, not_T}
+use lib.Dec.{T, eqb, eqb→eq, eqb_refl}
 use lib.ListN.{length, get_or}
 use Rattle.lists.specs.Lists.{range, cons_if, keep, any, all, each, is_in}
 use Rattle.lists.proofs.Member.{t_to_eq, eq_to_t, or_left, or_right, and_both, and_left, and_right, and3, both3, in_range, range_in}

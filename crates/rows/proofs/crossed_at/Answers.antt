@@ -2,7 +2,6 @@
 use mathlib.Core.Path.{◌∙◌}
 use Rattle.paper.specs.Lattice.{lattice}
 use Rattle.rows.proofs.Cubes.{crossed_is, row_bit}
-use borrow.Author.Rules.{rules}
 use Rattle.rows.proofs.crossed_at.Goals as goal
 
 pub returns : goal.returns

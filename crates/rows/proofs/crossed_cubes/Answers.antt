@@ -7,7 +7,6 @@ use Rattle.rows.specs.declared.Quad.{Quad}
 use Rattle.rows.specs.Rows.{crossed_row}
 use Rattle.rows.proofs.Cubes.{quad_within}
 use Rattle.lattice.proofs.Laws.{layer_few}
-use borrow.Author.Rules.{rules}
 use Rattle.rows.proofs.crossed_cubes.Goals as goal
 use Rattle.rows.proofs.crossed_cubes.Goals.{Start}
 

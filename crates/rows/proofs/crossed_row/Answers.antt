@@ -2,7 +2,6 @@
 use mathlib.Core.Path.{ap, ◌∙◌}
 use lib.Bits.{bit_and}
 use Rattle.rows.specs.Rows.{mixed_word, crossed_row}
-use borrow.Author.Rules.{rules}
 use Rattle.rows.proofs.crossed_row.Goals as goal
 
 pub returns : goal.returns

@@ -2,7 +2,6 @@
 use mathlib.Core.Path.{◌≡◌, sym, ap, ◌∙◌}
 use native.Mathlib.Omega.{arith}
 use Rattle.rows.specs.Rows.{face_rows, face_row}
-use borrow.Author.Rules.{rules}
 use Rattle.rows.proofs.face_row.Goals as goal
 
 pub returns-then-i-eq2 : goal.returns-then-i-eq2

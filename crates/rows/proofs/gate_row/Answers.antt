@@ -2,7 +2,6 @@
 use Prim.Native.Nat.{◌*◌, ◌%◌, ◌^◌}
 use lib.Bits.{bit_and, bit_xor}
 use Rattle.rows.specs.Rows.{gate_row}
-use borrow.Author.Rules.{rules}
 use Rattle.rows.proofs.gate_row.Goals as goal
 
 pub returns : goal.returns

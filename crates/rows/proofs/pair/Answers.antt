@@ -1,7 +1,6 @@
 -- A remainder by four is two bits. Assumes nothing.
 use native.Mathlib.Omega.{arith}
 use Rattle.bits.proofs.Bits.{bit_pair}
-use borrow.Author.Rules.{rules}
 use Rattle.rows.proofs.pair.Goals as goal
 
 pub returns : goal.returns

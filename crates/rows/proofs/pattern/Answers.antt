@@ -1,7 +1,6 @@
 -- The four pairs with their weights. Assumes nothing.
 use native.Mathlib.Omega.{arith}
 use Rattle.rows.specs.Rows.{pairs, pattern_in}
-use borrow.Author.Rules.{rules}
 use Rattle.rows.proofs.pattern.Goals as goal
 
 pub returns : goal.returns

@@ -1,7 +1,6 @@
 -- The four words. Assumes nothing.
 use mathlib.Core.Path.{refl}
 use Rattle.rows.specs.Rows.{quad_at}
-use borrow.Author.Rules.{rules}
 use Rattle.rows.proofs.quad_at.Goals as goal
 
 pub returns : goal.returns
