@@ -1,4 +1,4 @@
--- `codec::put_u32s` meets its contract. The loop's invariant: the bytes of the numbers passed are stored, and
+-- The loop's invariant of `codec::put_u32s`: the bytes of the numbers passed are stored, and nothing else.
 use mathlib.Core.Path.{◌≡◌}
 use Prim.Native.Nat.{◌-◌, ◌≤◌}
 use lib.ListN.{length, take}
