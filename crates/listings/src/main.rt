@@ -6,23 +6,26 @@
 // the fill at (0, 0, 0).
 #![tactic(auto)]
 
-// The listings of the bytes.
-fn each(input: &[u8]) {
+use std::io;
+
+// The listings of the bytes. Where a write fails, the listings before it are written, and the answer is the system's error.
+fn each(rt: &impl Print, input: &[u8]) -> io::Result<()> {
     let mut at: usize = 0;
     while 2 <= input.len() - at {
         let from = at + 2;
         let n = codec::get_u16(input, at) as usize;
         if input.len() - from < n {
-            return;
+            return Ok(());
         }
         let end = from + n;
-        printer::listing(&input[from..end]);
+        printer::listing(rt, &input[from..end])?;
         at = end;
     }
+    Ok(())
 }
 
-fn main() {
-    let mut input = io::buffer();
-    let n = io::read_full(0, &mut input);
-    each(&input[..n]);
+fn main(rt: HostRuntime) -> io::Result<()> {
+    let mut input = [0u8; 4096];
+    let n = printer::read_input(&rt, &mut input)?;
+    each(&rt, &input[..n])
 }

@@ -1,6 +1,6 @@
 // Document 01's "Sheets worked by hand", each run through the entry points, one line an answer, in the document's order, with t by both
 // rules of document 02 (vi) behind document 01's. The stored run holds what the documents say of them. Where they name no sample's value,
-// air is 3 and solid is -1.
+// air is 3 and solid is -1. A write that fails ends the run with the system's error, which each function that writes hands on.
 #![tactic(auto)]
 
 ghost use Rattle.std.specs.Prelude.{◌≡◌, true, false, ◌≤◌};
@@ -8,54 +8,55 @@ ghost use Rattle.paper.specs.Lattice.{air};
 
 use paper::{Built, Got, Place, Rule, Sizes, Start, Verdict, Wrote};
 use printer::{decimal, number, signed, text};
+use std::io;
 
 // ── answers as text ──
 
-fn say(before: &[u8], n: usize) {
-    text(before);
-    decimal(n as u64);
+fn say(rt: &impl Print, before: &[u8], n: usize) -> io::Result<()> {
+    text(rt, before)?;
+    decimal(rt, n as u64)
 }
 
-fn say_sizes(z: Sizes) {
-    say(b"", z.nx);
-    say(b"x", z.ny);
-    say(b"x", z.nz);
+fn say_sizes(rt: &impl Print, z: Sizes) -> io::Result<()> {
+    say(rt, b"", z.nx)?;
+    say(rt, b"x", z.ny)?;
+    say(rt, b"x", z.nz)
 }
 
-fn say_place(p: Place) {
-    say(b"(", p.x);
-    say(b",", p.y);
-    say(b",", p.z);
-    text(b")");
+fn say_place(rt: &impl Print, p: Place) -> io::Result<()> {
+    say(rt, b"(", p.x)?;
+    say(rt, b",", p.y)?;
+    say(rt, b",", p.z)?;
+    text(rt, b")")
 }
 
-fn say_built(r: Built) {
-    say(b"build ", r.number);
-    say(b", ", r.vertices);
-    say(b" vertices, ", r.triangles);
-    say(b" triangles, ", r.cubes);
-    text(b" cubes\n");
+fn say_built(rt: &impl Print, r: Built) -> io::Result<()> {
+    say(rt, b"build ", r.number)?;
+    say(rt, b", ", r.vertices)?;
+    say(rt, b" vertices, ", r.triangles)?;
+    say(rt, b" triangles, ", r.cubes)?;
+    text(rt, b" cubes\n")
 }
 
-fn say_wrote(r: Wrote) {
-    say(b"write ", r.number);
-    say(b", ", r.bytes);
-    text(b" bytes");
+fn say_wrote(rt: &impl Print, r: Wrote) -> io::Result<()> {
+    say(rt, b"write ", r.number)?;
+    say(rt, b", ", r.bytes)?;
+    text(rt, b" bytes")
 }
 
-fn say_got(r: Got) {
-    say(b"read ", r.number);
-    say(b", ", r.vertices);
-    say(b" vertices, ", r.triangles);
-    text(b" triangles, ");
-    say_sizes(r.sizes);
-    text(b"\n");
+fn say_got(rt: &impl Print, r: Got) -> io::Result<()> {
+    say(rt, b"read ", r.number)?;
+    say(rt, b", ", r.vertices)?;
+    say(rt, b" vertices, ", r.triangles)?;
+    text(rt, b" triangles, ")?;
+    say_sizes(rt, r.sizes)?;
+    text(rt, b"\n")
 }
 
-fn say_verdict(r: Verdict) {
-    say(b"check ", r.number);
-    say(b" at ", r.place);
-    text(b"\n");
+fn say_verdict(rt: &impl Print, r: Verdict) -> io::Result<()> {
+    say(rt, b"check ", r.number)?;
+    say(rt, b" at ", r.place)?;
+    text(rt, b"\n")
 }
 
 // ── building and checking in room of its own ──
@@ -88,7 +89,14 @@ fn build(
 }
 
 // The answer of a build in room for nv vertices and nt triangles.
-fn answer_in(samples: &[i16], sizes: Sizes, start: Start, nv: usize, nt: usize)
+fn answer_in(
+    rt: &impl Print,
+    samples: &[i16],
+    sizes: Sizes,
+    start: Start,
+    nv: usize,
+    nt: usize,
+) -> io::Result<()>
     requires { (nv ≤ 100) × (nt ≤ 100) }
 {
     let mut vertices = [0i32; 400];
@@ -102,19 +110,19 @@ fn answer_in(samples: &[i16], sizes: Sizes, start: Start, nv: usize, nt: usize)
         &mut vertices[..v],
         &mut triangles[..t],
     );
-    say_built(r);
+    say_built(rt, r)
 }
 
 // The answer of a build in more room than any sheet here needs.
-fn answer(samples: &[i16], sizes: Sizes, start: Start) {
-    answer_in(samples, sizes, start, 100, 100);
+fn answer(rt: &impl Print, samples: &[i16], sizes: Sizes, start: Start) -> io::Result<()> {
+    answer_in(rt, samples, sizes, start, 100, 100)
 }
 
 // The place of a start, and the answer from there.
-fn answer_from(samples: &[i16], sizes: Sizes, p: Place) {
-    say_place(p);
-    text(b": ");
-    answer(samples, sizes, Start::Cube(p));
+fn answer_from(rt: &impl Print, samples: &[i16], sizes: Sizes, p: Place) -> io::Result<()> {
+    say_place(rt, p)?;
+    text(rt, b": ")?;
+    answer(rt, samples, sizes, Start::Cube(p))
 }
 
 // ── the listing and its file ──
@@ -147,274 +155,306 @@ fn check_listed(rule: Rule, bytes: &[u8]) -> Verdict {
 }
 
 // The `v` and `t` lines of three vertices and one triangle.
-fn say_sheet(vertices: &[i32; 12], triangles: &[u32; 3]) {
-    printer::vertices(vertices, 3);
-    printer::triangles(triangles, 1);
+fn say_sheet(rt: &impl Print, vertices: &[i32; 12], triangles: &[u32; 3]) -> io::Result<()> {
+    printer::vertices(rt, vertices, 3)?;
+    printer::triangles(rt, triangles, 1)
 }
 
 // The four u32 of its trailer.
-fn say_u32s(bytes: &[u8; 84]) {
-    number(codec::get_u32(bytes, 60) as u64);
-    number(codec::get_u32(bytes, 64) as u64);
-    number(codec::get_u32(bytes, 68) as u64);
-    number(codec::get_u32(bytes, 72) as u64);
+fn say_u32s(rt: &impl Print, bytes: &[u8; 84]) -> io::Result<()> {
+    number(rt, codec::get_u32(bytes, 60) as u64)?;
+    number(rt, codec::get_u32(bytes, 64) as u64)?;
+    number(rt, codec::get_u32(bytes, 68) as u64)?;
+    number(rt, codec::get_u32(bytes, 72) as u64)
 }
 
 // The four u16.
-fn say_u16s(bytes: &[u8; 84]) {
-    number(codec::get_u16(bytes, 76) as u64);
-    number(codec::get_u16(bytes, 78) as u64);
-    number(codec::get_u16(bytes, 80) as u64);
-    number(codec::get_u16(bytes, 82) as u64);
+fn say_u16s(rt: &impl Print, bytes: &[u8; 84]) -> io::Result<()> {
+    number(rt, codec::get_u16(bytes, 76) as u64)?;
+    number(rt, codec::get_u16(bytes, 78) as u64)?;
+    number(rt, codec::get_u16(bytes, 80) as u64)?;
+    number(rt, codec::get_u16(bytes, 82) as u64)
 }
 
 // "its file has 84 bytes, trailer 60, 3, 12, 1, 2, 2, 2, 21331"
-fn say_trailer(bytes: &[u8; 84]) {
-    text(b", trailer");
-    say_u32s(bytes);
-    say_u16s(bytes);
-    text(b"\n");
+fn say_trailer(rt: &impl Print, bytes: &[u8; 84]) -> io::Result<()> {
+    text(rt, b", trailer")?;
+    say_u32s(rt, bytes)?;
+    say_u16s(rt, bytes)?;
+    text(rt, b"\n")
 }
 
 // What is read from its file.
-fn read_back(bytes: &[u8]) {
+fn read_back(rt: &impl Print, bytes: &[u8]) -> io::Result<()> {
     let mut vertices = [0i32; 12];
     let mut triangles = [0u32; 3];
-    text(b"its file: ");
-    say_got(file_reader::read(bytes, &mut vertices, &mut triangles));
-    say_sheet(&vertices, &triangles);
+    text(rt, b"its file: ")?;
+    say_got(rt, file_reader::read(bytes, &mut vertices, &mut triangles))?;
+    say_sheet(rt, &vertices, &triangles)
 }
 
 // Its file under each rule: 65,536 × 1 is divided by 4 with nothing left.
-fn check_both(bytes: &[u8]) {
-    text(b"its file, rounded down: ");
-    say_verdict(check_listed(Rule::Down, bytes));
-    text(b"its file, rounded to nearest: ");
-    say_verdict(check_listed(Rule::Nearest, bytes));
+fn check_both(rt: &impl Print, bytes: &[u8]) -> io::Result<()> {
+    text(rt, b"its file, rounded down: ")?;
+    say_verdict(rt, check_listed(Rule::Down, bytes))?;
+    text(rt, b"its file, rounded to nearest: ")?;
+    say_verdict(rt, check_listed(Rule::Nearest, bytes))
 }
 
 // Its file, written and read back, and checked.
-fn write_and_read(vertices: &[i32], triangles: &[u32]) {
+fn write_and_read(rt: &impl Print, vertices: &[i32], triangles: &[u32]) -> io::Result<()> {
     let mut bytes = [0u8; 84];
     let w = file_writer::write(sized(2, 2, 2), 3, 1, vertices, triangles, &mut bytes);
-    text(b"its file: ");
-    say_wrote(w);
-    say_trailer(&bytes);
-    read_back(&bytes);
-    check_both(&bytes);
+    text(rt, b"its file: ")?;
+    say_wrote(rt, w)?;
+    say_trailer(rt, &bytes)?;
+    read_back(rt, &bytes)?;
+    check_both(rt, &bytes)
 }
 
 // "the listing above"
-fn listing() {
+fn listing(rt: &impl Print) -> io::Result<()> {
     let mut vertices = [0i32; 12];
     let mut triangles = [0u32; 3];
-    text(b"the listing, 2x2x2, only (0,0,0) air: ");
-    say_built(build_listed(&mut vertices, &mut triangles));
-    say_sheet(&vertices, &triangles);
-    write_and_read(&vertices, &triangles);
+    text(rt, b"the listing, 2x2x2, only (0,0,0) air: ")?;
+    say_built(rt, build_listed(&mut vertices, &mut triangles))?;
+    say_sheet(rt, &vertices, &triangles)?;
+    write_and_read(rt, &vertices, &triangles)
 }
 
 // ── sheets ──
 
 // "2×2×2, only RTN air"
-fn rtn_air() {
+fn rtn_air(rt: &impl Print) -> io::Result<()> {
     let samples: [i16; 8] = [-1, -1, -1, 3, -1, -1, -1, -1];
-    text(b"2x2x2, only (1,1,0) air: ");
-    answer(&samples, sized(2, 2, 2), Start::Lowest);
+    text(rt, b"2x2x2, only (1,1,0) air: ")?;
+    answer(rt, &samples, sized(2, 2, 2), Start::Lowest)
 }
 
-fn middle_from(samples: &[i16], p: Place) {
-    text(b"3x3x3, only (1,1,1) air, start ");
-    answer_from(samples, sized(3, 3, 3), p);
+fn middle_from(rt: &impl Print, samples: &[i16], p: Place) -> io::Result<()> {
+    text(rt, b"3x3x3, only (1,1,1) air, start ")?;
+    answer_from(rt, samples, sized(3, 3, 3), p)
 }
 
 // "from any of the 8 starts"
-fn middle_starts(samples: &[i16]) {
+fn middle_starts(rt: &impl Print, samples: &[i16]) -> io::Result<()> {
     for k in 0..8 {
         middle_from(
+            rt,
             samples,
             Place {
                 x: k % 2,
                 y: k / 2 % 2,
                 z: k / 4,
             },
-        );
+        )?;
     }
+    Ok(())
 }
 
-fn middle_in_room(samples: &[i16], nv: usize, nt: usize)
+fn middle_in_room(rt: &impl Print, samples: &[i16], nv: usize, nt: usize) -> io::Result<()>
     requires { (nv ≤ 100) × (nt ≤ 100) }
 {
-    say(b"3x3x3, only (1,1,1) air, room ", nv);
-    say(b" and ", nt);
-    text(b": ");
-    answer_in(samples, sized(3, 3, 3), Start::Lowest, nv, nt);
+    say(rt, b"3x3x3, only (1,1,1) air, room ", nv)?;
+    say(rt, b" and ", nt)?;
+    text(rt, b": ")?;
+    answer_in(rt, samples, sized(3, 3, 3), Start::Lowest, nv, nt)
 }
 
 // "3×3×3, only (1,1,1) air"
-fn middle_air() {
+fn middle_air(rt: &impl Print) -> io::Result<()> {
     let mut samples = [-1i16; 27];
     samples[13] = 3;
-    middle_starts(&samples);
-    middle_in_room(&samples, 13, 24);
-    middle_in_room(&samples, 14, 23);
+    middle_starts(rt, &samples)?;
+    middle_in_room(rt, &samples, 13, 24)?;
+    middle_in_room(rt, &samples, 14, 23)
 }
 
-fn ends_from(x: usize) {
+fn ends_from(rt: &impl Print, x: usize) -> io::Result<()> {
     let mut samples = [-1i16; 20];
     samples[0] = 3;
     samples[4] = 3;
-    text(b"5x2x2, only (0,0,0) and (4,0,0) air, start ");
-    answer_from(&samples, sized(5, 2, 2), Place { x, y: 0, z: 0 });
+    text(rt, b"5x2x2, only (0,0,0) and (4,0,0) air, start ")?;
+    answer_from(rt, &samples, sized(5, 2, 2), Place { x, y: 0, z: 0 })
 }
 
 // "5×2×2, only (0,0,0) and (4,0,0) air"
-fn ends_air() {
-    ends_from(0);
-    ends_from(3);
-    ends_from(1);
-    ends_from(4);
+fn ends_air(rt: &impl Print) -> io::Result<()> {
+    ends_from(rt, 0)?;
+    ends_from(rt, 3)?;
+    ends_from(rt, 1)?;
+    ends_from(rt, 4)
 }
 
 // "all samples 0"
-fn all_zero() {
+fn all_zero(rt: &impl Print) -> io::Result<()> {
     let samples = [0i16; 8];
-    text(b"2x2x2, all samples 0: ");
-    answer(&samples, sized(2, 2, 2), Start::Lowest);
+    text(rt, b"2x2x2, all samples 0: ")?;
+    answer(rt, &samples, sized(2, 2, 2), Start::Lowest)
 }
 
 // ── t ──
 
-fn say_sample(v: i16) {
-    signed(v as i32);
+fn say_sample(rt: &impl Print, v: i16) -> io::Result<()> {
+    signed(rt, v as i32)
 }
 
 // "t for p, q", by document 01's rule
-fn t_for(p: i16, q: i16)
+fn t_for(rt: &impl Print, p: i16, q: i16) -> io::Result<()>
     requires { (air p ≡ false) × (air q ≡ true) }
 {
-    text(b"t for");
-    say_sample(p);
-    text(b" and");
-    say_sample(q);
-    say(b": ", crossing::crossing_of(Rule::Down, p, q) as usize);
-    text(b"\n");
+    text(rt, b"t for")?;
+    say_sample(rt, p)?;
+    text(rt, b" and")?;
+    say_sample(rt, q)?;
+    say(rt, b": ", crossing::crossing_of(Rule::Down, p, q) as usize)?;
+    text(rt, b"\n")
 }
 
-fn crossings() {
-    t_for(0, 1);
-    t_for(-1, 32767);
-    t_for(-2, 1);
-    t_for(-32768, 32767);
-    t_for(-32768, 1);
+fn crossings(rt: &impl Print) -> io::Result<()> {
+    t_for(rt, 0, 1)?;
+    t_for(rt, -1, 32767)?;
+    t_for(rt, -2, 1)?;
+    t_for(rt, -32768, 32767)?;
+    t_for(rt, -32768, 1)
 }
 
 // The same by both rules, document 02 (vi).
-fn t_both(p: i16, q: i16)
+fn t_both(rt: &impl Print, p: i16, q: i16) -> io::Result<()>
     requires { (air p ≡ false) × (air q ≡ true) }
 {
-    text(b"t for");
-    say_sample(p);
-    text(b" and");
-    say_sample(q);
-    say(b": down ", crossing::crossing_of(Rule::Down, p, q) as usize);
+    text(rt, b"t for")?;
+    say_sample(rt, p)?;
+    text(rt, b" and")?;
+    say_sample(rt, q)?;
     say(
+        rt,
+        b": down ",
+        crossing::crossing_of(Rule::Down, p, q) as usize,
+    )?;
+    say(
+        rt,
         b", nearest ",
         crossing::crossing_of(Rule::Nearest, p, q) as usize,
-    );
-    text(b"\n");
+    )?;
+    text(rt, b"\n")
 }
 
-fn both_rules() {
-    t_both(0, 1);
-    t_both(-2, 1);
-    t_both(-3, 2);
-    t_both(-1, 5);
-    t_both(-1, 2);
-    t_both(-32767, 1);
-    t_both(-1, 32767);
+fn both_rules(rt: &impl Print) -> io::Result<()> {
+    t_both(rt, 0, 1)?;
+    t_both(rt, -2, 1)?;
+    t_both(rt, -3, 2)?;
+    t_both(rt, -1, 5)?;
+    t_both(rt, -1, 2)?;
+    t_both(rt, -32767, 1)?;
+    t_both(rt, -1, 32767)
 }
 
 // ── axes ──
 
 // A lattice of these sizes, which has n samples.
-fn axes(sizes: Sizes, n: usize)
+fn axes(rt: &impl Print, sizes: Sizes, n: usize) -> io::Result<()>
     requires { n ≤ 260 }
 {
     let mut samples = [-1i16; 260];
     samples[0] = 3;
-    say_sizes(sizes);
-    text(b", only (0,0,0) air: ");
-    answer(&samples[..n], sizes, Start::Lowest);
+    say_sizes(rt, sizes)?;
+    text(rt, b", only (0,0,0) air: ")?;
+    answer(rt, &samples[..n], sizes, Start::Lowest)
 }
 
 // Each axis in turn has n samples, the others 2.
-fn axis_of(n: usize)
+fn axis_of(rt: &impl Print, n: usize) -> io::Result<()>
     requires { n ≤ 65 }
 {
-    axes(sized(n, 2, 2), 4 * n);
-    axes(sized(2, n, 2), 4 * n);
-    axes(sized(2, 2, n), 4 * n);
+    axes(rt, sized(n, 2, 2), 4 * n)?;
+    axes(rt, sized(2, n, 2), 4 * n)?;
+    axes(rt, sized(2, 2, n), 4 * n)
 }
 
 // "Axes of 1 and 65 are refused, 2 and 64 not."
-fn axis_limits() {
-    axis_of(1);
-    axis_of(65);
-    axes(sized(2, 2, 2), 8);
-    axis_of(64);
+fn axis_limits(rt: &impl Print) -> io::Result<()> {
+    axis_of(rt, 1)?;
+    axis_of(rt, 65)?;
+    axes(rt, sized(2, 2, 2), 8)?;
+    axis_of(rt, 64)
 }
 
 // ── files ──
 
 // "A 23-byte file is 11.": the trailer of the listing's file, without its first byte.
-fn short_file() {
+fn short_file(rt: &impl Print) -> io::Result<()> {
     let bytes =
         b"\x00\x00\x00\x03\x00\x00\x00\x0c\x00\x00\x00\x01\x00\x00\x00\x02\x00\x02\x00\x02\x00SS";
     let mut vertices = [0i32; 12];
     let mut triangles = [0u32; 3];
-    text(b"a file of 23 bytes: ");
-    say_got(file_reader::read(bytes, &mut vertices, &mut triangles));
-    text(b"a file of 23 bytes: ");
-    say_verdict(check_listed(Rule::Nearest, bytes));
+    text(rt, b"a file of 23 bytes: ")?;
+    say_got(rt, file_reader::read(bytes, &mut vertices, &mut triangles))?;
+    text(rt, b"a file of 23 bytes: ")?;
+    say_verdict(rt, check_listed(Rule::Nearest, bytes))
 }
 
 // "The listing's file", but with nt of these triangles, in bytes for just that file.
-fn altered(with: &[u8], vertices: &[i32], triangles: &[u32], nt: usize, bytes: &mut [u8]) {
-    text(b"the listing's file with ");
-    text(with);
-    text(b": ");
-    say_wrote(file_writer::write(sized(2, 2, 2), 3, nt, vertices, triangles, bytes));
-    text(b", ");
-    say_verdict(check_listed(Rule::Nearest, bytes));
+fn altered(
+    rt: &impl Print,
+    with: &[u8],
+    vertices: &[i32],
+    triangles: &[u32],
+    nt: usize,
+    bytes: &mut [u8],
+) -> io::Result<()> {
+    text(rt, b"the listing's file with ")?;
+    text(rt, with)?;
+    text(rt, b": ")?;
+    say_wrote(
+        rt,
+        file_writer::write(sized(2, 2, 2), 3, nt, vertices, triangles, bytes),
+    )?;
+    text(rt, b", ")?;
+    say_verdict(rt, check_listed(Rule::Nearest, bytes))
 }
 
 // "with triangle 2 0 1 .. with 1 0 2 .. with it twice .. with none"
-fn altered_files() {
+fn altered_files(rt: &impl Print) -> io::Result<()> {
     let mut vertices = [0i32; 12];
     let mut triangles = [0u32; 3];
     let _built = build_listed(&mut vertices, &mut triangles);
-    altered(b"triangle 2 0 1", &vertices, &[2, 0, 1], 1, &mut [0u8; 84]);
-    altered(b"triangle 1 0 2", &vertices, &[1, 0, 2], 1, &mut [0u8; 84]);
     altered(
+        rt,
+        b"triangle 2 0 1",
+        &vertices,
+        &[2, 0, 1],
+        1,
+        &mut [0u8; 84],
+    )?;
+    altered(
+        rt,
+        b"triangle 1 0 2",
+        &vertices,
+        &[1, 0, 2],
+        1,
+        &mut [0u8; 84],
+    )?;
+    altered(
+        rt,
         b"triangle 2 0 1 twice",
         &vertices,
         &[2, 0, 1, 2, 0, 1],
         2,
         &mut [0u8; 96],
-    );
-    altered(b"no triangle", &vertices, &[], 0, &mut [0u8; 72]);
+    )?;
+    altered(rt, b"no triangle", &vertices, &[], 0, &mut [0u8; 72])
 }
 
-fn main() {
-    listing();
-    rtn_air();
-    middle_air();
-    ends_air();
-    all_zero();
-    crossings();
-    both_rules();
-    axis_limits();
-    short_file();
-    altered_files();
+fn main(rt: HostRuntime) -> io::Result<()> {
+    listing(&rt)?;
+    rtn_air(&rt)?;
+    middle_air(&rt)?;
+    ends_air(&rt)?;
+    all_zero(&rt)?;
+    crossings(&rt)?;
+    both_rules(&rt)?;
+    axis_limits(&rt)?;
+    short_file(&rt)?;
+    altered_files(&rt)
 }
