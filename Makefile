@@ -1,7 +1,7 @@
 # A bare make prints this list, which is made from the lines that begin with two number signs.
 PREFIX ?= /usr/local
 
-# This processor's own code: the library as it is on x86-64, its module compiled for any other processor.
+# This processor's own code: the library as the gate tests it on x86-64, on another processor what rt compiles for that one.
 ifeq ($(shell uname -m),x86_64)
 PROGRAMS = host/target/release
 LIBRARY = target/staticlib/libcabi.a
@@ -34,7 +34,7 @@ test:
 
 # The tool and its trials, over the proved library itself.
 host:
-	rt staticlib cabi
+	sh host/library.sh
 	sh host/cargo.sh build --workspace
 
 ## make trials    the proved library and the tool against the second mesher, on random input
@@ -77,6 +77,6 @@ memory:
 
 ## make mutants   250 single changes of the definitions; those that nothing refuses are listed
 mutants:
-	rt check
+	rt all check
 	command -v python3 >/dev/null || { apt-get update -qq && apt-get install -y -qq python3; }
 	python3 tools/mutants.py --most 250

@@ -2,8 +2,9 @@
 //! installed is what was proved.
 //!
 //! The library is compiled for x86-64. On another processor it cannot be linked into a Rust program: it is then linked
-//! with bridge/serve.c into a small x86-64 program, by the compiler of the Rattle kit, and run under the kit's emulator.
-//! With the feature `own` the library's module, compiled for this processor (native/library.sh), is linked instead.
+//! with bridge/serve.c into a small x86-64 program, by the compiler of the Rattle kit, and run under an emulator, the
+//! `qemu-x86_64` on the path (Debian's qemu-user). With the feature `own` the library that is compiled for this processor
+//! (library.sh --own) is linked instead.
 
 use std::path::{Path, PathBuf};
 use std::process::{exit, Command, Stdio};
@@ -18,8 +19,8 @@ fn main() {
     println!("cargo:rerun-if-changed={}", archive.display());
     let Ok(bytes) = std::fs::read(&archive) else {
         match own {
-            true => stop("target/native/libcabi.a is missing: run `sh host/native/library.sh`"),
-            false => stop("target/staticlib/libcabi.a is missing: run `rt staticlib cabi` in the repository's root"),
+            true => stop("target/native/libcabi.a is missing: run `sh host/library.sh --own`"),
+            false => stop("target/staticlib/libcabi.a is missing: run `sh host/library.sh`"),
         }
     };
     let here = std::env::var("CARGO_CFG_TARGET_ARCH").unwrap_or_default();
@@ -46,22 +47,20 @@ fn machine(archive: &[u8]) -> Option<&'static str> {
     }
 }
 
-/// The kit's compiler, linker and emulator stand beside each other; `rt` leads to the kit.
+/// A program on the path.
+fn on_path(name: &str) -> Option<PathBuf> {
+    std::env::split_paths(&std::env::var_os("PATH")?).map(|folder| folder.join(name)).find(|file| file.is_file())
+}
+
+/// The kit's compiler and linker stand beside each other; `rt` leads to the kit.
 fn kit_tools() -> Option<PathBuf> {
-    let home = match std::env::var_os("RATTLE_HOME") {
-        Some(home) => PathBuf::from(home),
-        None => {
-            let path = std::env::var_os("PATH")?;
-            let rt = std::env::split_paths(&path).map(|folder| folder.join("rt")).find(|file| file.is_file())?;
-            rt.canonicalize().ok()?.parent()?.parent()?.to_path_buf()
-        }
-    };
-    Some(home.join("on").join(std::env::consts::ARCH).join("toolchain/bin"))
+    let rt = on_path("rt")?.canonicalize().ok()?;
+    Some(rt.parent()?.parent()?.join("toolchain/bin"))
 }
 
 fn emulate(archive: &Path) {
-    let Some(tools) = kit_tools().filter(|tools| tools.join("qemu-x86_64").is_file()) else {
-        stop("the proved library is not for this processor, and the Rattle kit's emulator was not found beside `rt`");
+    let (Some(tools), Some(emulator)) = (kit_tools(), on_path("qemu-x86_64")) else {
+        stop("the proved library is not for this processor, and `rt` or an emulator, `qemu-x86_64`, is not on the path");
     };
     let out = PathBuf::from(std::env::var_os("OUT_DIR").unwrap_or_default());
     let (object, server) = (out.join("serve.o"), out.join("serve"));
@@ -80,6 +79,6 @@ fn emulate(archive: &Path) {
         _ => stop("bridge/serve.c was not compiled and linked with the proved library"),
     }
     println!("cargo:rustc-cfg=emulated");
-    println!("cargo:rustc-env=MALXUQEED_EMULATOR={}", tools.join("qemu-x86_64").display());
+    println!("cargo:rustc-env=MALXUQEED_EMULATOR={}", emulator.display());
     println!("cargo:rustc-env=MALXUQEED_SERVER={}", server.display());
 }

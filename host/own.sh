@@ -1,23 +1,20 @@
 #!/bin/sh
-# own.sh [--module] COMMAND [WORDS]: the host's programs built over the library as this processor's own code, then COMMAND with
-# them on its path. The library is x86-64 code; on another processor its module, as the Rattle kit hands it to its compiler, is
-# compiled for that processor (native/library.sh), and so it is on x86-64 with --module.
+# own.sh [--own] COMMAND [WORDS]: the host's programs built over the library as this processor's own code, then COMMAND with them on its
+# path. On x86-64 that is the library as the gate tests it; on another processor, and on x86-64 with --own, it is what rt compiles for the
+# processor at hand (library.sh --own).
 set -eu
 here=$(cd "$(dirname "$0")" && pwd)
-root=$(dirname "$here")
-module=no
-[ "$(uname -m)" = x86_64 ] || module=yes
-[ "$1" != --module ] || { module=yes; shift; }
-# proves what the library needs several crates at a time, where rt staticlib would prove one after another
-(cd "$root" && rt check cabi) >&2
-if [ $module = yes ]; then
-    sh "$here/native/library.sh" >&2
-    CARGO_TARGET_DIR=$root/target/native/cargo
+own=no
+[ "$(uname -m)" = x86_64 ] || own=yes
+[ "$1" != --own ] || { own=yes; shift; }
+if [ $own = yes ]; then
+    sh "$here/library.sh" --own >&2
+    CARGO_TARGET_DIR=$(dirname "$here")/target/native/cargo
     export CARGO_TARGET_DIR
     programs=$CARGO_TARGET_DIR/release
     sh "$here/cargo.sh" build --workspace --features malxuqeed/own
 else
-    (cd "$root" && rt staticlib cabi) >&2
+    sh "$here/library.sh" >&2
     programs=$here/target/release
     sh "$here/cargo.sh" build --workspace
 fi

@@ -1,14 +1,18 @@
 #!/usr/bin/env python3
-"""edits.py [LOGS]: whether every must-fail edit still fits its crate: each 'old:' text stands exactly once in its file, after the pairs
-before it. With LOGS, a folder that a run of the edits left (target/must-fail), also whether the prover's first error is about what the
-edit says and not a name that is missing."""
+"""edits.py [LOG]: whether every must-fail edit still fits its crate: each 'old:' text stands exactly once in its file, after the pairs
+before it. With LOG, what rt ci or rt must-fail printed, also whether the prover refused each for what the edit says, and not only for a
+name that is missing: rt says which edits are refused only because a proof file names what the edit took away, and which cannot be read."""
 import glob
 import os
 import re
 import sys
 
 ROOT = os.path.dirname(os.path.dirname(os.path.abspath(__file__)))
-NAMELESS = re.compile(r'can be named from here|not in scope|no field')
+# rt's line for an edit, and how one begins that the prover refused
+SAID = re.compile(r'^rt: must-fail (\S+?)/(\S+)\.edit: (.*)$', re.M)
+REFUSED = 'refused, as it must be'
+# what stands in the line of one that is refused for a missing name: rt's own words, else the prover's
+NAMELESS = re.compile(r'only because a proof file names|can be named from here|not in scope|no field')
 
 
 def misfit(edit):
@@ -34,22 +38,24 @@ def misfit(edit):
     return None if pairs else 'no pair of texts'
 
 
-def nameless(log):
-    """The prover's first error, where it is that a name is missing."""
-    text = open(log, encoding='utf-8', errors='replace').read()
-    error = re.search(r'^[^\n]*: error[^\n]*', text, re.M)
-    return error.group(0) if error and NAMELESS.search(error.group(0)) else None
+def unproved(said):
+    """What rt says of an edit, where that is not that the prover refuses what it says."""
+    if said is None:
+        return 'rt says nothing of it'
+    return said if not said.startswith(REFUSED) or NAMELESS.search(said) else None
 
 
 def main():
-    bad = 0
+    bad, said = 0, {}
+    if len(sys.argv) > 1:
+        with open(sys.argv[1], encoding='utf-8', errors='replace') as log:
+            said = {found.groups()[:2]: found[3] for found in SAID.finditer(log.read())}
     edits = sorted(glob.glob(os.path.join(ROOT, 'crates', '*', 'must-fail', '*.edit')))
     for edit in edits:
         crate, label = edit.split(os.sep)[-3], os.path.basename(edit)[:-5]
         why = misfit(edit)
         if not why and len(sys.argv) > 1:
-            log = os.path.join(sys.argv[1], crate, label, '.log')
-            why = nameless(log) if os.path.isfile(log) else f'no {log}'
+            why = unproved(said.get((crate, label)))
         if why:
             bad += 1
             print(f'{crate}/{label}: {why}')

@@ -35,7 +35,7 @@ const STARTS: &[u8] = b"#include <malxuqeed.h>\n#include <stdio.h>\n\
 #[test]
 fn installed_moved_and_called_from_c_and_python() {
     if host::abi::EMULATED {
-        // Code for another processor cannot be linked here: the tests over the module compiled for this one do this.
+        // Code for another processor cannot be linked here: the tests over the library compiled for this one do this.
         return;
     }
     let folder = Folder::new("install");

@@ -17,7 +17,7 @@ use emulated as library;
 /// Whether the library runs under an emulator, where times say nothing.
 pub const EMULATED: bool = cfg!(emulated);
 
-/// Whether the library is its module compiled for this processor.
+/// Whether the library is the one compiled for this processor (`library.sh --own`).
 pub const OWN: bool = cfg!(feature = "own");
 
 #[repr(C)]
