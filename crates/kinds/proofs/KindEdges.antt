@@ -16,7 +16,7 @@ use Rattle.lists.proofs.Computed.{upto, upto_at}
 use Rattle.paper.specs.declared.Sizes.{Sizes}
 use Rattle.paper.specs.declared.Place.{Place}
 use Rattle.paper.specs.Lattice.{Lattice, place, air_at, sample_no, sample_at, corner, cubes, cube_no, cube_at, in_lattice}
-use Rattle.paper.specs.Tables.{Ends, ends, tets, tet_edges, kinds, low, joins, kind_of}
+use Rattle.paper.specs.Tables.{Ends, tets, tet_edges, kinds, low, joins, kind_of}
 use Rattle.paper.specs.Sheet.{edge_from, anchor_of, kind_in, ends_of, first_end, second_end, edge_no, split, cube_edges}
 use Rattle.paper.specs.Within.{Sized, SampleIn, CubeIn}
 use Rattle.paper.proofs.Numbers.{sample_place, cube_place, cube_inside, cube_back}

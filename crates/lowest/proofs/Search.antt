@@ -6,7 +6,6 @@ use Prim.Native.Nat.{ℕ, zero, suc, ◌+◌, ◌-◌, ◌*◌, ◌%◌, ◌^◌
 use native.Mathlib.Omega.{arith}
 use native.Mathlib.Decide.{dec_lt}
 use lib.Dec.{T, eqb, ltb, lt→ltb}
-use lib.ListN.{get_or}
 use lib.Pow.{pow_pos}
 use borrow.Author.Tests.{eqb-true, ne_eqb, lt-ltb}
 use Rattle.lists.proofs.Member.{and_both, and_right, and3}
@@ -21,7 +20,7 @@ use Rattle.paper.proofs.Numbers.{cube_place, cube_inside, cube_back, cube_lt}
 use Rattle.paper.proofs.Starts.{inside_of}
 use Rattle.bits.specs.Words.{bit}
 use Rattle.bits.proofs.Bits.{bit_of_0, bit_and_law, bit_inner, bit_not, bit_pow, word_is}
-use Rattle.rows.specs.Rows.{HasBoth, quad_at, crossed_row, crossed_by, inside_row, wanted, wanted_row, wanted_by, looked_at}
+use Rattle.rows.specs.Rows.{HasBoth, crossed_by, inside_row, wanted, wanted_row, wanted_by, looked_at}
 use Rattle.rows.proofs.Cubes.{crossed_is, crossed_at, row_bit}
 
 -- the lowest cube that passes a test, by numbers: none below the number of cubes, or one with none below it

@@ -12,7 +12,7 @@ use Rattle.lists.proofs.Every.{All}
 use Rattle.paper.specs.declared.Sizes.{Sizes}
 use Rattle.paper.specs.declared.Place.{Place}
 use Rattle.paper.specs.declared.Rule.{Rule}
-use Rattle.paper.specs.Lattice.{Lattice, place, samples, sample_no, sample_at, air_at, corner, cubes, cube_at}
+use Rattle.paper.specs.Lattice.{Lattice, place, sample_no, sample_at, air_at, corner, cubes, cube_at}
 use Rattle.paper.specs.Tables.{Ends, Tet, Tri, ends, kinds, low, kind_of}
 use Rattle.paper.specs.Sheet.{edge_numbers, edge_no, anchor_of, kind_in, ends_of, first_end, second_end, split}
 use Rattle.paper.specs.Sheet.{cube_edges, record_at, vertex_record, tet_edge, tri_edges, cube_triangles}

@@ -1,7 +1,6 @@
 -- Document 02 (iii): "Pieces parted by fill may share a lattice edge; each has its own vertex there.", by a worked pair. Assumes nothing.
 use mathlib.Core.Path.{◌≡◌, refl}
 use mathlib.Core.Bool.{xor}
-use mathlib.Core.List.{[], ◌∷◌}
 use Prim.Native.Nat.{ℕ}
 use lib.Dec.{T, eqb, ltb→lt}
 use Rattle.lists.specs.Lists.{count}

@@ -9,7 +9,7 @@ use Rattle.paper.specs.declared.Sizes.{Sizes}
 use Rattle.paper.specs.declared.Start.TheVariants.{Unnamed, Lowest}
 use Rattle.paper.specs.declared.Rule.TheVariants.{Down, Nearest}
 use Rattle.paper.specs.File.{content_of}
-use Rattle.paper.proofs.Cases.{Case, builds, starts_at, lists, files, checks, checks_file, checks_bytes, checks_from}
+use Rattle.paper.proofs.Cases.{Case, builds, starts_at, lists, checks, checks_file, checks_bytes, checks_from}
 use Rattle.paper.proofs.Cases.{checks_under, crosses, check_leaves, check_file_leaves, leaves, clears, limited, writes}
 use Rattle.paper.proofs.Cases.{write_leaves, bytes, reads, reads_file, read_leaves, signs, rereads, Row, row_of_law, outcome}
 use Rattle.paper.proofs.Cases.{sizes, lat, at, works, numbers, o, a, first_air, rtn_air, middle_air, two_air}

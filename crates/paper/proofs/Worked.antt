@@ -7,7 +7,7 @@ use lib.IntN.{pos, negsuc}
 use lib.ListN.{replicate}
 use Rattle.paper.specs.declared.Start.TheVariants.{Lowest}
 use Rattle.paper.specs.declared.Rule.TheVariants.{Down, Nearest}
-use Rattle.paper.proofs.Cases.{Case, builds, lists, files, crosses, Row, row_of_law, outcome}
+use Rattle.paper.proofs.Cases.{builds, lists, files, crosses, Row, row_of_law, outcome}
 use Rattle.paper.proofs.Cases.{lat, at, first_air, rtn_air, middle_air, two_air}
 
 table : List Row

@@ -1,15 +1,15 @@
 -- Steps from crossed cubes lead to crossed cubes and back: two pieces that meet are one. Assumes nothing.
 use mathlib.Core.Path.{◌≡◌, sym, ap, subst, ◌∙◌}
 use mathlib.Core.Bool.{Bool, not, ◌&&◌}
-use mathlib.Core.List.{List, [], ◌∷◌, map}
+use mathlib.Core.List.{List, map}
 use Prim.Native.Nat.{ℕ, ◌<◌}
 use native.Mathlib.Omega.{arith}
 use lib.Dec.{T, eqb, T_not, not_T}
-use Rattle.lists.specs.Lists.{range, any, all, each, is_in}
+use Rattle.lists.specs.Lists.{range, any, all, is_in}
 use Rattle.lists.specs.Reach.{Reach, here, step}
 use Rattle.lists.proofs.Member.{and_both, and_left, and_right, and3, any_each, any_in, in_any, any_some, in_cons_if}
 use Rattle.lists.proofs.Every.{All, any_with, any_map}
-use Rattle.lists.proofs.Within.{all_in, in_all_test, list_in, in_list, all_map}
+use Rattle.lists.proofs.Within.{all_in, in_all_test, in_list, all_map}
 use Rattle.paper.specs.declared.Place.{Place}
 use Rattle.paper.specs.Lattice.{Lattice, Face, air_at, cubes, cube_no, cube_at, corner, mixed}
 use Rattle.paper.specs.Lattice.{mixed_at, visitable, crossed, faces, step_over, steps, Visited, visited}

@@ -1,19 +1,19 @@
 -- What a plain scan lists: the lowest cube of each piece; and each crossed cube lies in exactly one piece that it lists. Assumes nothing.
 use mathlib.Core.Path.{◌≡◌, refl, sym, ap, subst, ◌∙◌}
-use mathlib.Core.Bool.{Bool, true, false, not, ◌&&◌, ◌||◌}
-use mathlib.Core.List.{List, [], ◌∷◌, ◌++◌, Memᴰ as In}
+use mathlib.Core.Bool.{Bool, true, false, not, ◌&&◌}
+use mathlib.Core.List.{List, [], ◌++◌}
 use mathlib.Core.Logic.{◌⊎◌, inl, inr, ⊎_elim}
 use Prim.Native.Nat.{ℕ, zero, suc, ◌≤◌, ◌<◌}
 use native.Mathlib.Decide.{ℕ_discrete, dec_lt}
 use native.Mathlib.Omega.{arith}
 use lib.Dec.{T, eqb, leb, leb→le, le→leb, T_not, not_T}
 use Rattle.lists.specs.Lists.{range, cons_if, keep, count, any, all, each, is_in}
-use Rattle.lists.proofs.Member.{t_to_eq, or_cases, or_left, or_right, and_both, and_left, and_right}
+use Rattle.lists.proofs.Member.{or_cases, or_left, or_right, and_both, and_left, and_right}
 use Rattle.lists.proofs.Member.{any_append, any_each, any_in, in_any, in_cons_if, cons_if_in, in_keep, range_in}
 use Rattle.lists.proofs.Closure.{bool_same}
 use Rattle.lists.proofs.Runs.{keep_snoc}
 use Rattle.lists.proofs.Rising.{keep_rising}
-use Rattle.lists.proofs.Within.{t_to_false, all_in, in_all_test, list_in, in_list}
+use Rattle.lists.proofs.Within.{all_in, in_all_test, list_in, in_list}
 use Rattle.lists.proofs.Counts.{Unique, rising_unique, few, count_some}
 use Rattle.paper.specs.Lattice.{Lattice, cubes, crossed, visited}
 use Rattle.paper.specs.Within.{Sized}

@@ -3,8 +3,7 @@ use mathlib.Core.Path.{◌≡◌, refl, ◌∙◌}
 use mathlib.Core.Bool.{cond}
 use mathlib.Core.List.{List, [], ◌∷◌, ◌++◌, map}
 use Prim.Native.Nat.{ℕ, ◌-◌, ◌*◌}
-use lib.IntN.{ℤ, pos}
-use lib.Dec.{eqb}
+use lib.IntN.{pos}
 use lib.ListN.{length, drop, replicate}
 use Rattle.lists.specs.Lists.{range, is_in}
 use Rattle.lists.specs.Reach.{grow, rounds, reached}
@@ -15,7 +14,7 @@ use Rattle.paper.specs.Tests.{judge}
 use Rattle.paper.specs.Room.{work, lengths, roomy, front_after, work_after, output_after}
 use Rattle.paper.specs.Build.{shape_tests}
 use Rattle.paper.proofs.Cases.{lat, corner_fill, parted, filled}
-use Rattle.tray.specs.Pieces.{is_lowest, lowest_cubes, begins, scanned, plain_scan, Lent, lent}
+use Rattle.tray.specs.Pieces.{begins, scanned, plain_scan, Lent, lent}
 use Rattle.tray.specs.Pieces.{piece_tests, find_number, found_at, found_in, as_building, lent_after}
 
 -- a lattice whose samples of these numbers are air, the others solid

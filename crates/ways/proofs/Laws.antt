@@ -17,7 +17,7 @@ use lib.ListN.{length, get_or, set}
 use lib.Seq.{get_or-set_same, get_or-set_other}
 use borrow.Author.Tests.{eqb-true, eqb-false}
 use Rattle.bits.specs.Words.{On, less}
-use Rattle.bits.proofs.Places.{on_zero, ones_zero, on_or_left, on_or_right, or_on}
+use Rattle.bits.proofs.Places.{on_zero, on_or_left, on_or_right, or_on}
 use Rattle.ways.specs.Flow.{Flow, flow, wait, sends, blank, one_if_zero, Roomy}
 
 -- a store, read at its own place and at another

@@ -1,7 +1,6 @@
 -- The test of the definition. Assumes nothing.
 use mathlib.Core.Path.{refl}
 use Rattle.bits.specs.Words.{bit}
-use borrow.Author.Rules.{rules}
 use Rattle.bits.proofs.has_bit.Goals as goal
 
 pub returns : goal.returns

@@ -1,13 +1,12 @@
 -- After each row its vertices stand behind those before it. Assumes nothing.
 use mathlib.Core.Path.{◌≡◌}
 use mathlib.Core.List.{List}
-use Prim.Native.Nat.{ℕ, ◌-◌}
+use Prim.Native.Nat.{ℕ}
 use native.Mathlib.Omega.{arith}
 use lib.ListN.{length}
 use Rattle.paper.specs.Lattice.{Lattice, lattice}
 use Rattle.dots.specs.Dots.{edges_of, layer_edges, Drawn, drawn}
-use Rattle.dots.proofs.Laws.{Drawing, drawing_none, drawing_long, drawing_room, drawing_more, drawing_all, crossed_part}
-use borrow.Author.Rules.{rules}
+use Rattle.dots.proofs.Laws.{drawing_none, drawing_long, drawing_room, drawing_more, drawing_all, crossed_part}
 use Rattle.build_vertices.proofs.put_layer.Goals as goal
 use Rattle.build_vertices.proofs.put_layer.Goals.{At-loop-y, Start}
 
@@ -36,8 +35,8 @@ put_row_at-next-requires c =
       nz_in_bounds = c.requires.nz_in_bounds;
       crossed = crossed_part (volume (goal.at.put_row_at-next-requires c).Start) (edges (goal.at.put_row_at-next-requires c).Start) a.sizes.ny c.loop-y.y (omega arith) c.requires.crossed;
       fact = drawing_room c.args.rule (volume (goal.at.put_row_at-next-requires c).Start) (edges (goal.at.put_row_at-next-requires c).Start) a.sizes.ny a.first a.at c.loop-y.y c.loop-y.next (lent (goal.at.put_row_at-next-requires c).Start)
-              (left (goal.at.put_row_at-next-requires c).At-loop-y) c.loop-y.invariant
-              _ c.requires.fact (omega arith);
+          (left (goal.at.put_row_at-next-requires c).At-loop-y) c.loop-y.invariant
+          _ c.requires.fact (omega arith);
     }
 
 pub loop-y-preserved : goal.loop-y-preserved

@@ -1,13 +1,8 @@
 -- After each row its vertices stand behind those before it. Assumes nothing.
-use mathlib.Core.Path.{◌≡◌}
-use mathlib.Core.List.{List}
-use Prim.Native.Nat.{ℕ, ◌-◌}
-use native.Mathlib.Omega.{arith}
-use lib.ListN.{length}
-use Rattle.paper.specs.Lattice.{Lattice, lattice}
-use Rattle.dots.specs.Dots.{edges_of, layer_edges, Drawn, drawn}
-use Rattle.dots.proofs.Laws.{Drawing, drawing_none, drawing_long, drawing_room, drawing_more, drawing_all, crossed_part}
-use borrow.Author.Rules.{rules}
+use Prim.Native.Nat.{◌-◌}
+use Rattle.paper.specs.Lattice.{lattice}
+use Rattle.dots.specs.Dots.{edges_of, drawn}
+use Rattle.dots.proofs.Laws.{Drawing}
 use Rattle.build_vertices.proofs.put_layer.Given as goal
 
 abbrev pub invariant-loop-y : goal.invariant-loop-y

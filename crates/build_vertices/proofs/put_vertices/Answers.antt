@@ -1,15 +1,14 @@
 -- After each layer its vertices stand behind those before it. Assumes nothing.
 use mathlib.Core.Path.{◌≡◌}
 use mathlib.Core.List.{List}
-use Prim.Native.Nat.{ℕ, ◌-◌}
+use Prim.Native.Nat.{ℕ}
 use native.Mathlib.Omega.{arith}
 use lib.ListN.{length}
 use Rattle.paper.specs.Lattice.{Lattice, lattice}
 use Rattle.paper.specs.Room.{needed_slots}
 use Rattle.dots.specs.Dots.{layer_edges, edges_by, Drawn, drawn, Roomy}
-use Rattle.dots.proofs.Laws.{Drawing, drawing_none, drawing_long, drawing_room, drawing_more, drawing_all, crossed_part}
+use Rattle.dots.proofs.Laws.{drawing_none, drawing_long, drawing_room, drawing_more, drawing_all, crossed_part}
 use Rattle.dots.proofs.Rows.{all_few}
-use borrow.Author.Rules.{rules}
 use Rattle.build_vertices.proofs.put_vertices.Goals as goal
 use Rattle.build_vertices.proofs.put_vertices.Goals.{At-loop-z, Start}
 
@@ -51,8 +50,8 @@ put_layer-next-requires c =
       nz_in_bounds = c.requires.nz_in_bounds;
       crossed = crossed_part (volume (goal.at.put_layer-next-requires c).Start) (edges (goal.at.put_layer-next-requires c).Start) a.sizes.nz c.loop-z.z (omega arith) c.requires.crossed;
       fact = drawing_room c.args.rule (volume (goal.at.put_layer-next-requires c).Start) (edges (goal.at.put_layer-next-requires c).Start) a.sizes.nz 0 0 c.loop-z.z c.loop-z.next (lent (goal.at.put_layer-next-requires c).Start) (left (goal.at.put_layer-next-requires c).At-loop-z)
-              c.loop-z.invariant _
-              (room (goal.at.put_layer-next-requires c).Start) (omega arith);
+          c.loop-z.invariant _
+          (room (goal.at.put_layer-next-requires c).Start) (omega arith);
     }
 
 pub loop-z-preserved : goal.loop-z-preserved

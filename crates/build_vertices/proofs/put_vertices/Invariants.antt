@@ -1,15 +1,8 @@
 -- After each layer its vertices stand behind those before it. Assumes nothing.
-use mathlib.Core.Path.{◌≡◌}
-use mathlib.Core.List.{List}
-use Prim.Native.Nat.{ℕ, ◌-◌}
-use native.Mathlib.Omega.{arith}
-use lib.ListN.{length}
-use Rattle.paper.specs.Lattice.{Lattice, lattice}
-use Rattle.paper.specs.Room.{needed_slots}
-use Rattle.dots.specs.Dots.{layer_edges, edges_by, Drawn, drawn, Roomy}
-use Rattle.dots.proofs.Laws.{Drawing, drawing_none, drawing_long, drawing_room, drawing_more, drawing_all, crossed_part}
-use Rattle.dots.proofs.Rows.{all_few}
-use borrow.Author.Rules.{rules}
+use Prim.Native.Nat.{◌-◌}
+use Rattle.paper.specs.Lattice.{lattice}
+use Rattle.dots.specs.Dots.{layer_edges, drawn}
+use Rattle.dots.proofs.Laws.{Drawing}
 use Rattle.build_vertices.proofs.put_vertices.Given as goal
 
 abbrev pub invariant-loop-z : goal.invariant-loop-z

@@ -2,10 +2,9 @@
 use borrow.Author.Rules.{rules}
 use borrow.Author.Fill.{fill_more}
 use mathlib.Core.Path.{◌≡◌}
-use Prim.Native.Nat.{◌≤◌, ◌<◌, ◌-◌}
+use Prim.Native.Nat.{◌<◌}
 use native.Mathlib.Omega.{arith}
 use lib.ListN.{length, length-set}
-use Rattle.lists.specs.Lists.{cleared}
 use Rattle.clear.proofs.clear_words.Goals as goal
 
 pub loop-i-preserved : goal.loop-i-preserved

@@ -1,10 +1,7 @@
 -- The front so far is 0, the rest as it was. Assumes nothing.
-use borrow.Author.Rules.{rules}
-use borrow.Author.Fill.{fill_more}
 use mathlib.Core.Path.{◌≡◌}
-use Prim.Native.Nat.{◌≤◌, ◌<◌, ◌-◌}
-use native.Mathlib.Omega.{arith}
-use lib.ListN.{length, length-set}
+use Prim.Native.Nat.{◌≤◌, ◌-◌}
+use lib.ListN.{length}
 use Rattle.lists.specs.Lists.{cleared}
 use Rattle.clear.proofs.clear_words.Given as goal
 

@@ -1,5 +1,4 @@
 -- Slice by slice. Assumes nothing.
-use borrow.Author.Rules.{rules}
 use mathlib.Core.Path.{ap, ◌∙◌}
 use Prim.Native.Nat.{ℕ, ◌*◌}
 use Rattle.lists.specs.Lists.{cleared}

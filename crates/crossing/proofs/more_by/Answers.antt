@@ -1,10 +1,8 @@
 -- What each rule adds. Assumes nothing.
-use borrow.Author.Rules.{rules}
 use mathlib.Core.Path.{sym, ap}
 use native.Mathlib.Omega.{arith}
 use Rattle.paper.specs.declared.Rule.{Rule}
 use Rattle.crossing.specs.Rounding.{more_by}
-use Rattle.crossing.proofs.more_by.Reads as reads
 use Rattle.crossing.proofs.more_by.Goals as goal
 
 -- src/lib.rt:27:1

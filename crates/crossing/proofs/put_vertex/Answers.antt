@@ -1,5 +1,4 @@
 -- Four stores one behind the other. Assumes nothing.
-use borrow.Author.Rules.{rules}
 use mir.Facts.{to_z-of_z}
 use mir.Syntax.{w32}
 use Prim.Native.Nat.{◌*◌}

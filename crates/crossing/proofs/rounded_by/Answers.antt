@@ -1,10 +1,7 @@
 -- One quotient, of a little more. Assumes nothing.
-use borrow.Author.Rules.{rules}
 use mathlib.Core.Path.{ap, ◌∙◌}
 use Prim.Native.Nat.{ℕ, ◌+◌, ◌/◌}
 use Rattle.crossing.proofs.Rounding.{one_quotient}
-use Rattle.crossing.proofs.rounded_by.Reads as reads
-use Rattle.crossing.proofs.more_by.Reads as more_by_reads
 use Rattle.crossing.proofs.rounded_by.Goals as goal
 
 -- src/lib.rt:38:1

@@ -1,5 +1,4 @@
 -- The word's digits are the definition's. Assumes nothing.
-use borrow.Author.Rules.{rules}
 use Rattle.paper.specs.Sheet.{ends_of}
 use Rattle.sides.proofs.Digits.{digit_is}
 use Rattle.sides.specs.Pattern.{digit_of}

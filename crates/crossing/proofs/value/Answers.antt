@@ -1,5 +1,4 @@
 -- The machine reads the sample back from its bits. Assumes nothing.
-use borrow.Author.Rules.{rules}
 use mathlib.Core.Path.{ap, ◌∙◌}
 use Prim.Native.Nat.{ℕ}
 use mir.Facts.{to_z-of_z}

@@ -1,5 +1,4 @@
 -- The four words. Assumes nothing.
-use borrow.Author.Rules.{rules}
 use Rattle.kinds.specs.Kinds.{cubes_around}
 use Rattle.kinds.proofs.cubes_around.Goals as goal
 

@@ -1,7 +1,6 @@
 -- Word by word. Assumes nothing.
 use native.Mathlib.Omega.{arith}
 use Rattle.kinds.proofs.Anchors.{anchor_word}
-use borrow.Author.Rules.{rules}
 use Rattle.kinds.proofs.kinds_at.Goals as goal
 
 pub returns : goal.returns

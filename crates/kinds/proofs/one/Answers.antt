@@ -2,7 +2,6 @@
 use mathlib.Core.Path.{sym}
 use native.Mathlib.Omega.{arith}
 use Rattle.bits.proofs.Bits.{bit_weight}
-use borrow.Author.Rules.{rules}
 use Rattle.kinds.proofs.one.Goals as goal
 
 pub returns : goal.returns

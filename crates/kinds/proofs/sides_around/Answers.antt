@@ -1,5 +1,4 @@
 -- The three words. Assumes nothing.
-use borrow.Author.Rules.{rules}
 use Rattle.kinds.specs.Kinds.{sides_around}
 use Rattle.kinds.proofs.sides_around.Goals as goal
 

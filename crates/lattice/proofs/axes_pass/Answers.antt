@@ -1,5 +1,4 @@
 -- Axis by axis. Assumes nothing.
-use borrow.Author.Rules.{rules}
 use borrow.Author.Tests.{not-true, not-false}
 use mathlib.Core.Path.{sym, ◌∙◌}
 use Rattle.paper.specs.Lattice.{axes}

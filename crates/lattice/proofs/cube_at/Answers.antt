@@ -5,7 +5,6 @@ use Rattle.paper.specs.Lattice.{cube_at}
 use Rattle.paper.specs.Within.{CubeIn}
 use Rattle.paper.proofs.Numbers.{cube_inside}
 use Rattle.lattice.proofs.Laws.{cubes_few}
-use borrow.Author.Rules.{rules}
 use Rattle.lattice.proofs.cube_at.Goals as goal
 
 pub place_of-requires : goal.place_of-requires

@@ -3,7 +3,6 @@ use native.Mathlib.Omega.{arith}
 use mathlib.Core.Path.{refl}
 use Rattle.paper.specs.Lattice.{cubes}
 use Rattle.lattice.proofs.Laws.{cube_layer_few, cubes_few}
-use borrow.Author.Rules.{rules}
 use Rattle.lattice.proofs.cube_count.Goals as goal
 
 pub overflow_mul-result : goal.overflow_mul-result

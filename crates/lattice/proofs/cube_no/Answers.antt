@@ -5,7 +5,6 @@ use mathlib.Core.Path.{refl}
 use Rattle.paper.specs.Lattice.{cube_no}
 use Rattle.paper.proofs.Numbers.{cube_lt}
 use Rattle.lattice.proofs.Laws.{Parts, parts}
-use borrow.Author.Rules.{rules}
 use Rattle.lattice.proofs.cube_no.Goals as goal
 use Rattle.lattice.proofs.cube_no.Goals.{Start}
 

@@ -4,7 +4,6 @@ use native.Mathlib.Nat.{mod-lt, div-le_self, div-div-eq-div-mul}
 use Prim.Native.Nat.{ℕ, ◌%◌, ◌/◌}
 use native.Mathlib.Omega.{arith}
 use Rattle.paper.specs.Lattice.{place}
-use borrow.Author.Rules.{rules}
 use Rattle.lattice.proofs.place_of.Goals as goal
 
 pub overflow_cast-result : goal.overflow_cast-result

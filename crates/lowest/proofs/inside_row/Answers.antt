@@ -1,8 +1,6 @@
 -- No cube where y or z is at the bounds, else all but the first and the last. Assumes nothing.
 use mathlib.Core.Path.{sym, ap, ◌∙◌}
 use Prim.Native.Nat.{ℕ, ◌-◌, ◌%◌}
-use native.Mathlib.Omega.{arith}
-use borrow.Author.Rules.{rules}
 use borrow.Author.Tests.{not-true, not-false}
 use Rattle.lowest.proofs.Search.{no_row_y, no_row_z, inner_row}
 use Rattle.lowest.proofs.inside_row.Goals as goal

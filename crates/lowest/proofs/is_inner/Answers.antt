@@ -1,6 +1,5 @@
 -- End by end. Assumes nothing.
 use native.Mathlib.Omega.{arith}
-use borrow.Author.Rules.{rules}
 use borrow.Author.Tests.{lt-ltb, le-ltb}
 use Rattle.paper.specs.Lattice.{inner}
 use Rattle.lowest.proofs.is_inner.Goals as goal

@@ -8,9 +8,8 @@ use Rattle.paper.specs.Lattice.{lattice, place, cube_no}
 use Rattle.paper.specs.Within.{CubeIn}
 use Rattle.bits.specs.Words.{bit}
 use Rattle.rows.specs.Rows.{looked_at}
-use Rattle.lowest.proofs.Search.{next, full, Seeking, Looking, none_looked, looked_le}
+use Rattle.lowest.proofs.Search.{next, full, none_looked, looked_le}
 use Rattle.lowest.proofs.Search.{wanted_bit, clear_row, none_lowest, found_lowest}
-use borrow.Author.Rules.{rules}
 use Rattle.lowest.proofs.lowest_crossed.Goals as goal
 use Rattle.lowest.proofs.lowest_crossed.Goals.{At-loop-x, Then-has_bit}
 
@@ -40,9 +39,9 @@ loop-y-init c =
 pub wanted_cubes-m-requires :
     goal.wanted_cubes-m-requires
 wanted_cubes-m-requires c = record {
-      sized = (c.requires.0, c.requires.1, c.requires.2);
-      y_bound = (omega arith, omega arith);
-    }
+  sized = (c.requires.0, c.requires.1, c.requires.2);
+  y_bound = (omega arith, omega arith);
+}
 
 pub overflow_sub-sizes : goal.overflow_sub-sizes
 overflow_sub-sizes c = omega arith

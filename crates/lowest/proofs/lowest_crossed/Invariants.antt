@@ -1,16 +1,6 @@
 -- No cube before the row is wanted, and no cube of the row so far. Assumes nothing.
-use mathlib.Core.Path.{◌≡◌, refl, sym, ◌∙◌}
-use mathlib.Core.Bool.{false}
-use Prim.Native.Nat.{ℕ, ◌+◌, ◌-◌, ◌*◌, ◌≤◌, ◌<◌}
-use native.Mathlib.Omega.{arith}
-use borrow.Author.Count.{below_more}
-use Rattle.paper.specs.Lattice.{lattice, place, cube_no}
-use Rattle.paper.specs.Within.{CubeIn}
-use Rattle.bits.specs.Words.{bit}
-use Rattle.rows.specs.Rows.{looked_at}
-use Rattle.lowest.proofs.Search.{next, full, Seeking, Looking, none_looked, looked_le}
-use Rattle.lowest.proofs.Search.{wanted_bit, clear_row, none_lowest, found_lowest}
-use borrow.Author.Rules.{rules}
+use Prim.Native.Nat.{◌+◌, ◌-◌, ◌*◌}
+use Rattle.lowest.proofs.Search.{Seeking, Looking}
 use Rattle.lowest.proofs.lowest_crossed.Given as goal
 
 abbrev pub invariant-loop-x : goal.invariant-loop-x

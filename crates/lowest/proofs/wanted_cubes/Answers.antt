@@ -1,9 +1,7 @@
 -- All the crossed cubes of the row, or those of the row off the bounds. Assumes nothing.
-use mathlib.Core.Path.{ap, ap₂, ◌∙◌}
-use mathlib.Core.Bool.{Bool}
+use mathlib.Core.Path.{ap₂}
 use native.Mathlib.Omega.{arith}
 use lib.Bits.{bit_and}
-use borrow.Author.Rules.{rules}
 use Rattle.rows.specs.Rows.{wanted_row}
 use Rattle.lowest.proofs.wanted_cubes.Goals as goal
 

@@ -7,7 +7,6 @@ use lib.ListN.{set}
 use Rattle.tetra.specs.Cut.{row_steps}
 use Rattle.patterns.specs.Table.{pattern_from, Small, Tabled}
 use Rattle.patterns.proofs.Laws.{Filling, filling_none, filling_more, pattern_is, steps_small}
-use borrow.Author.Rules.{rules}
 use Rattle.patterns.proofs.pattern_table.Goals as goal
 
 pub loop-m-init : goal.loop-m-init
@@ -15,12 +14,11 @@ loop-m-init c =
     filling_none _ c.args.table.now c.args.counts.now c.requires.1 c.requires.2
 
 pub put_pattern-end-requires : goal.put_pattern-end-requires
-put_pattern-end-requires c =
-    (
-      c.tet_corners-corners.ensures,
-      subst Small (sym c.row_steps-steps.ensures) (steps_small c.args.sizes c.requires.0),
-      omega (arith, c.loop-m.invariant.tabled.table_fit),
-    )
+put_pattern-end-requires c = (
+  c.tet_corners-corners.ensures,
+  subst Small (sym c.row_steps-steps.ensures) (steps_small c.args.sizes c.requires.0),
+  omega (arith, c.loop-m.invariant.tabled.table_fit),
+)
 
 pub overflow_sub-counts : goal.overflow_sub-counts
 overflow_sub-counts c = omega (arith, c.put_pattern-end.ensures.1)

@@ -1,5 +1,4 @@
 -- By the way the start is given. Assumes nothing.
-use borrow.Author.Rules.{rules}
 use mathlib.Core.Path.{sym, subst}
 use Rattle.paper.specs.declared.Start.{Start}
 use Rattle.ready.specs.Ready.{ChosenBy}

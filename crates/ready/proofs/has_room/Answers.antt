@@ -1,5 +1,4 @@
 -- Slice by slice. Assumes nothing.
-use borrow.Author.Rules.{rules}
 use borrow.Author.Tests.{lt-leb, le-leb}
 use Rattle.paper.specs.Room.{roomy}
 use Rattle.ready.proofs.has_room.Goals as goal

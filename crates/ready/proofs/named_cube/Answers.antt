@@ -1,5 +1,4 @@
 -- Test 4, then test 5. Assumes nothing.
-use borrow.Author.Rules.{rules}
 use borrow.Author.Tests.{not-true, not-false}
 use mathlib.Core.Path.{sym, ◌∙◌}
 use native.Mathlib.Omega.{arith}
@@ -39,11 +38,10 @@ returns-then-not-crossed c = record {
 }
 
 pub cube_no-requires : goal.cube_no-requires
-cube_no-requires c =
-    (
-      c.requires.0,
-      in_lattice_law _ _ (eq_to_t (sym c.is_cube-there.ensures ∙ not-false _ c.if-not-there.false-raw)),
-    )
+cube_no-requires c = (
+  c.requires.0,
+  in_lattice_law _ _ (eq_to_t (sym c.is_cube-there.ensures ∙ not-false _ c.if-not-there.false-raw)),
+)
 
 pub returns : goal.returns
 unfolding start_tests

@@ -8,7 +8,6 @@ use mir.Facts.{to_z-of_z}
 use Rattle.paper.specs.Lattice.{air, is_fill}
 use Rattle.paper.specs.Sheet.{weight}
 use Rattle.rows.proofs.Making.{air_no_fill}
-use borrow.Author.Rules.{rules}
 use Rattle.sampling.proofs.code.Goals as goal
 use Rattle.sampling.proofs.code.Goals.{After-is_air, After-is_fill}
 

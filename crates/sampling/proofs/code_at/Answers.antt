@@ -8,7 +8,6 @@ use lib.ListN.{get_or}
 use Rattle.paper.specs.Lattice.{air, is_fill}
 use Rattle.paper.specs.Sheet.{weight}
 use Rattle.rows.proofs.Making.{codes_one}
-use borrow.Author.Rules.{rules}
 use Rattle.sampling.proofs.code_at.Goals as goal
 
 pub returns : goal.returns

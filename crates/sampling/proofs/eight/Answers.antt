@@ -1,7 +1,6 @@
 -- Four codes, and four above them. Assumes nothing.
 use native.Mathlib.Omega.{arith}
 use Rattle.rows.proofs.Making.{codes_eight}
-use borrow.Author.Rules.{rules}
 use Rattle.sampling.proofs.eight.Goals as goal
 
 pub returns : goal.returns

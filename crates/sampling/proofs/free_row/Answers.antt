@@ -1,10 +1,8 @@
 -- The low places that no word has, at x or x + 1. Assumes nothing.
 use mathlib.Core.Path.{◌∙◌}
-use Prim.Native.Nat.{◌-◌, ◌/◌, ◌^◌}
-use native.Mathlib.Omega.{arith}
+use Prim.Native.Nat.{◌-◌, ◌/◌}
 use lib.Bits.{bit_and, bit_or, and_le_r}
 use Rattle.rows.proofs.Cubes.{free_word}
-use borrow.Author.Rules.{rules}
 use Rattle.sampling.proofs.free_row.Goals as goal
 
 pub overflow_sub-result : goal.overflow_sub-result

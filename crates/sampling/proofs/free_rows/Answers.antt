@@ -1,7 +1,7 @@
 -- The rows so far are those of free cubes, the rest as it was; a row is made from itself and rows behind it. Assumes nothing.
 use mathlib.Core.Path.{◌≡◌, refl, ap, ◌∙◌}
 use mathlib.Core.List.{List}
-use Prim.Native.Nat.{ℕ, ◌+◌, ◌-◌, ◌*◌, ◌≤◌, ◌<◌}
+use Prim.Native.Nat.{ℕ, ◌+◌, ◌-◌, ◌*◌, ◌<◌}
 use native.Mathlib.Omega.{arith}
 use native.Mathlib.Nat.{mul-add, mul-pos}
 use lib.ListN.{length, length-set}
@@ -11,8 +11,7 @@ use Rattle.paper.specs.Within.{Sized}
 use Rattle.bits.specs.Words.{word}
 use Rattle.rows.specs.declared.Quad.{Quad}
 use Rattle.rows.specs.Rows.{quad_at, free_in, quads, free_rows}
-use Rattle.rows.proofs.Making.{Standing, front_more, front_all, quad_rest}
-use borrow.Author.Rules.{rules}
+use Rattle.rows.proofs.Making.{front_more, front_all, quad_rest}
 use Rattle.sampling.proofs.free_rows.Goals as goal
 
 -- the rows of all but the last layer

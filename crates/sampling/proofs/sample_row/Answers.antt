@@ -7,7 +7,6 @@ use native.Mathlib.Omega.{arith}
 use lib.IntN.{ℤ}
 use Rattle.paper.specs.Lattice.{air, is_fill}
 use Rattle.rows.proofs.Making.{From, row_none, row_all, row_more, row_fits, pass_lt, codes_low, codes_high}
-use borrow.Author.Rules.{rules}
 use Rattle.sampling.proofs.sample_row.Goals as goal
 use Rattle.sampling.proofs.sample_row.Goals.{In-loop-k, In-loop-k-2}
 
@@ -20,7 +19,6 @@ free8 : (t : ℤ → Bool) (s : List ℤ) (i n k w : ℕ) → From t s i n k w �
 free8 t s i n k w f h z p = row_fits t s i n k w f 56 (omega (arith, f.upto))
 
 module _ (c : goal.In-loop-k) where
-
   free_w : c.loop-k.w < 9223372036854775808
   free_w = free air _ _ _ _ _ c.loop-k.invariant.0 c.requires.1 c.loop-k-test.true
 

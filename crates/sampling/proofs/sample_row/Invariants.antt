@@ -1,13 +1,8 @@
 -- From k on, w has the sides of the samples, and f the fill. Assumes nothing.
-use mathlib.Core.Path.{◌≡◌, ap, ◌∙◌}
-use mathlib.Core.Bool.{Bool}
-use mathlib.Core.List.{List}
-use Prim.Native.Nat.{ℕ, ◌+◌, ◌-◌, ◌/◌, ◌%◌, ◌≤◌, ◌<◌}
-use native.Mathlib.Omega.{arith}
-use lib.IntN.{ℤ}
+use mathlib.Core.Path.{◌≡◌}
+use Prim.Native.Nat.{◌%◌}
 use Rattle.paper.specs.Lattice.{air, is_fill}
-use Rattle.rows.proofs.Making.{From, row_none, row_all, row_more, row_fits, pass_lt, codes_low, codes_high}
-use borrow.Author.Rules.{rules}
+use Rattle.rows.proofs.Making.{From}
 use Rattle.sampling.proofs.sample_row.Given as goal
 
 abbrev pub invariant-loop-k : goal.invariant-loop-k

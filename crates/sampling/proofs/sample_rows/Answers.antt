@@ -1,14 +1,13 @@
 -- The rows so far are the lattice's, the rest as it was. Assumes nothing.
 use mathlib.Core.Path.{◌≡◌, refl, ◌∙◌}
 use mathlib.Core.List.{List}
-use Prim.Native.Nat.{ℕ, ◌+◌, ◌-◌, ◌*◌, ◌≤◌, ◌<◌}
+use Prim.Native.Nat.{ℕ, ◌+◌, ◌*◌, ◌≤◌, ◌<◌}
 use native.Mathlib.Omega.{arith}
 use lib.ListN.{length, set, length-set}
 use Rattle.lattice.proofs.Laws.{layer_few, samples_few}
 use Rattle.paper.specs.Lattice.{samples}
-use Rattle.rows.specs.Rows.{sides_from, fills_from, pass_rows}
+use Rattle.rows.specs.Rows.{pass_rows}
 use Rattle.rows.proofs.Making.{Standing, front_more, front_all, row_within}
-use borrow.Author.Rules.{rules}
 use Rattle.sampling.proofs.sample_rows.Goals as goal
 use Rattle.sampling.proofs.sample_rows.Goals.{Start}
 

@@ -2,7 +2,6 @@
 use mathlib.Core.Path.{refl}
 use native.Mathlib.Omega.{arith}
 use Rattle.sides.specs.Pattern.{bit_of}
-use borrow.Author.Rules.{rules}
 use Rattle.sides.proofs.bit.Goals as goal
 
 pub returns : goal.returns

@@ -2,7 +2,6 @@
 use mathlib.Core.Path.{refl}
 use native.Mathlib.Omega.{arith}
 use Rattle.sides.specs.Pattern.{digit_of}
-use borrow.Author.Rules.{rules}
 use Rattle.sides.proofs.digit.Goals as goal
 
 pub returns : goal.returns

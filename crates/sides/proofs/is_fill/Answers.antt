@@ -1,6 +1,6 @@
 -- The bits of -32768 are those of no other value of 16 bits. Assumes nothing.
 use mathlib.Core.Path.{◌≡◌}
-use Prim.Native.Nat.{ℕ, ◌<◌, ◌-◌, suc}
+use Prim.Native.Nat.{◌<◌, ◌-◌, suc}
 use native.Mathlib.Omega.{arith}
 use lib.Dec.{eqb, eqb→eq}
 use lib.IntN.{ℤ, pos, negsuc}

@@ -1,5 +1,4 @@
 -- The four bits with their weights. Assumes nothing.
-use borrow.Author.Rules.{rules}
 use native.Mathlib.Omega.{arith}
 use Rattle.tetra.specs.Cut.{row_by}
 use Rattle.tetra.proofs.row.Goals as goal

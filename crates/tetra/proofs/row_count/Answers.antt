@@ -5,7 +5,6 @@ use Rattle.sides.specs.Pattern.{digit_of}
 use Rattle.sides.proofs.Digits.{digit_is}
 use Rattle.tetra.specs.Cut.{row_count}
 use Rattle.tetra.proofs.Tables.{count_le}
-use borrow.Author.Rules.{rules}
 use Rattle.tetra.proofs.row_count.Goals as goal
 
 pub returns : goal.returns

@@ -3,9 +3,8 @@ use mathlib.Core.Path.{◌≡◌, refl, ap, ◌∙◌}
 use mathlib.Core.List.{List}
 use Prim.Native.Nat.{ℕ, ◌+◌, ◌-◌, ◌*◌, ◌/◌, ◌%◌, ◌<◌}
 use native.Mathlib.Omega.{arith}
-use lib.Dec.{T}
 use lib.ListN.{get_or}
-use Rattle.lists.proofs.Filled.{Filled, filled_none, filled_more, filled_all}
+use Rattle.lists.proofs.Filled.{filled_none, filled_more, filled_all}
 use Rattle.paper.specs.Tables as the
 use Rattle.tetra.specs.Cut.{tet_step, row_edge, row_steps}
 use Rattle.tetra.proofs.Tables.{tabled, tabled_at, row_number, number_lt, edge_six}

@@ -1,15 +1,11 @@
 -- The steps so far are the definition's. Assumes nothing.
-use mathlib.Core.Path.{◌≡◌, refl, ap, ◌∙◌}
 use mathlib.Core.List.{List}
-use Prim.Native.Nat.{ℕ, ◌+◌, ◌-◌, ◌*◌, ◌/◌, ◌%◌, ◌<◌}
-use native.Mathlib.Omega.{arith}
+use Prim.Native.Nat.{ℕ, ◌+◌, ◌-◌, ◌*◌, ◌/◌, ◌%◌}
 use lib.Dec.{T}
 use lib.ListN.{get_or}
-use Rattle.lists.proofs.Filled.{Filled, filled_none, filled_more, filled_all}
-use Rattle.paper.specs.Tables as the
-use Rattle.tetra.specs.Cut.{tet_step, row_edge, row_steps}
-use Rattle.tetra.proofs.Tables.{tabled, tabled_at, row_number, number_lt, edge_six}
-use Rattle.tetra.proofs.Laws.{step_at}
+use Rattle.lists.proofs.Filled.{Filled}
+use Rattle.tetra.specs.Cut.{row_edge}
+use Rattle.tetra.proofs.Tables.{tabled, row_number}
 use Rattle.tetra.proofs.row_steps.Given as goal
 
 -- the entry at i, of the 36 steps

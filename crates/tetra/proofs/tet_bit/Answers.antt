@@ -1,5 +1,4 @@
 -- The bit at the corner. Assumes nothing.
-use borrow.Author.Rules.{rules}
 use mathlib.Core.Path.{◌≡◌, ap, ◌∙◌}
 use mathlib.Core.List.{List}
 use Prim.Native.Nat.{ℕ, ◌+◌, ◌*◌}

@@ -1,12 +1,9 @@
 -- The corners so far are the definition's. Assumes nothing.
-use mathlib.Core.Path.{refl}
 use Prim.Native.Nat.{◌-◌, ◌/◌, ◌%◌}
-use native.Mathlib.Omega.{arith}
 use lib.Dec.{T}
-use Rattle.lists.proofs.Filled.{Filled, filled_none, filled_more, filled_all}
-use Rattle.paper.specs.Tables as the
-use Rattle.tetra.specs.Cut.{tet_at, tet_corner, tet_corners}
-use Rattle.tetra.proofs.Tables.{tabled, tabled_at}
+use Rattle.lists.proofs.Filled.{Filled}
+use Rattle.tetra.specs.Cut.{tet_corner}
+use Rattle.tetra.proofs.Tables.{tabled}
 use Rattle.tetra.proofs.tet_corners.Given as goal
 
 abbrev pub invariant-loop-i : goal.invariant-loop-i

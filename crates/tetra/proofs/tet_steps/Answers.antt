@@ -1,9 +1,8 @@
 -- The steps so far are the definition's. Assumes nothing.
 use mathlib.Core.Path.{refl, ◌∙◌}
-use Prim.Native.Nat.{◌+◌, ◌-◌, ◌*◌, ◌/◌, ◌%◌}
+use Prim.Native.Nat.{◌+◌, ◌*◌, ◌/◌, ◌%◌}
 use native.Mathlib.Omega.{arith}
-use lib.Dec.{T}
-use Rattle.lists.proofs.Filled.{Filled, filled_none, filled_more, filled_all}
+use Rattle.lists.proofs.Filled.{filled_none, filled_more, filled_all}
 use Rattle.paper.specs.Tables as the
 use Rattle.paper.proofs.Tables.{kind_lt}
 use Rattle.lattice.specs.Steps.{corner_step}

@@ -1,14 +1,10 @@
 -- The steps so far are the definition's. Assumes nothing.
-use mathlib.Core.Path.{refl, ◌∙◌}
-use Prim.Native.Nat.{◌+◌, ◌-◌, ◌*◌, ◌/◌, ◌%◌}
-use native.Mathlib.Omega.{arith}
+use Prim.Native.Nat.{◌-◌, ◌/◌, ◌%◌}
 use lib.Dec.{T}
-use Rattle.lists.proofs.Filled.{Filled, filled_none, filled_more, filled_all}
+use Rattle.lists.proofs.Filled.{Filled}
 use Rattle.paper.specs.Tables as the
-use Rattle.paper.proofs.Tables.{kind_lt}
-use Rattle.lattice.specs.Steps.{corner_step}
-use Rattle.tetra.specs.Cut.{tet_at, tet_ends, edge_step, tet_step, tet_steps}
-use Rattle.tetra.proofs.Tables.{tabled, tabled_at, low_lt}
+use Rattle.tetra.specs.Cut.{tet_ends, tet_step}
+use Rattle.tetra.proofs.Tables.{tabled}
 use Rattle.tetra.proofs.tet_steps.Given as goal
 
 abbrev pub invariant-loop-i : goal.invariant-loop-i

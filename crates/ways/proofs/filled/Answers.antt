@@ -1,7 +1,6 @@
 -- Rounds until one adds nothing: each other round makes a larger number. Assumes nothing.
-use Prim.Native.Nat.{◌-◌, ◌^◌}
 use native.Mathlib.Omega.{arith}
-use Rattle.ways.proofs.Fill.{round, Filling, filling_start, filling_more, filling_less, filling_all}
+use Rattle.ways.proofs.Fill.{round, filling_start, filling_more, filling_less, filling_all}
 use Rattle.ways.proofs.filled.Goals as goal
 
 pub loop-g-init : goal.loop-g-init

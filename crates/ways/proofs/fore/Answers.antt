@@ -1,5 +1,4 @@
 -- By whether there is a way. Assumes nothing.
-use borrow.Author.Rules.{rules}
 use Rattle.ways.proofs.Ways.{way_on, way_off}
 use Rattle.ways.proofs.fore.Goals as goal
 

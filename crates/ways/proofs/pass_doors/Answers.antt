@@ -1,7 +1,7 @@
 -- After k doors the state is that of k sends. Assumes nothing.
 use borrow.Author.Rules.{rules}
 use mathlib.Core.Path.{◌≡◌, refl, ap, ◌∙◌}
-use Prim.Native.Nat.{ℕ, ◌≤◌, ◌<◌, ◌-◌}
+use Prim.Native.Nat.{ℕ, ◌<◌}
 use native.Mathlib.Omega.{arith}
 use Rattle.ways.specs.declared.Out.{Out}
 use Rattle.ways.specs.Flow.{Flow, flow, sends}
@@ -38,8 +38,6 @@ way-w-requires c =
 
 -- where the way leads
 module _ (c : goal.After-way-w) where
-
-
   abbrev to : ℕ
   to = c.way-w.result.to
 

@@ -1,5 +1,4 @@
 -- By the three cases of `wait`. Assumes nothing.
-use borrow.Author.Rules.{rules}
 use mathlib.Core.Path.{sym}
 use Prim.Native.Nat.{◌<◌}
 use native.Mathlib.Omega.{arith}

@@ -3,7 +3,6 @@ use mathlib.Core.Path.{◌≡◌}
 use native.Mathlib.Omega.{arith}
 use Rattle.ways.specs.Ways.{is_way, next_row}
 use Rattle.ways.proofs.Ways.{way_at_law, low_y, low_z, row_le}
-use borrow.Author.Rules.{rules}
 use Rattle.ways.proofs.way.Goals as goal
 
 pub back-requires : goal.back-requires
