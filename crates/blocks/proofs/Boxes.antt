@@ -1,6 +1,6 @@
 -- A block row by row. Assumes nothing.
 use mathlib.Core.Path.{◌≡◌, refl, sym, ap, ap₂, subst, ◌∙◌}
-use mathlib.Core.Bool.{Bool, true, false, not, ◌&&◌, ◌||◌, and-false, or-false}
+use mathlib.Core.Bool.{Bool, true, false, not, ◌&&◌, ◌||◌, and-false}
 use mathlib.Core.List.{List}
 use Prim.Native.Nat.{ℕ, ◌+◌, ◌-◌, ◌*◌, ◌/◌, ◌%◌, ◌^◌, ◌≤◌, ◌<◌}
 use native.Mathlib.Decide.{ℕ_discrete, dec_lt}
@@ -11,8 +11,7 @@ use lib.Bits.{bit_and}
 use lib.Dec.{T}
 use lib.ListN.{length, get_or, length-set}
 use lib.Pow.{pow_pos, pow_mono}
-use Rattle.lists.proofs.Member.{t_to_eq, eq_to_t, and_both, and_left, and_right}
-use Rattle.lists.proofs.Closure.{bool_same}
+use Rattle.lists.proofs.Member.{t_to_eq, eq_to_t, and_left, and_right}
 use Rattle.lists.proofs.Within.{t_to_false}
 use Rattle.paper.specs.declared.Sizes.{Sizes}
 use Rattle.paper.specs.declared.Place.{Place}
@@ -24,7 +23,7 @@ use Rattle.bits.proofs.Bits.{bit_and_law, bit_not, bit_high}
 use Rattle.rows.specs.Rows.{row_no, crossed_by}
 use Rattle.blocks.specs.Blocks.{within, in_block, in_box, Lesser, crossed_where, Marked}
 use Rattle.blocks.proofs.Marks.{marked_none, marked_ext, marked_both, marked_in, here_is, there_is}
-use Rattle.blocks.proofs.Parts.{In, T_true, within_in, in_within, within_join, or_where}
+use Rattle.blocks.proofs.Parts.{T_true, within_in, in_within, within_join, or_where}
 
 -- the row of a place gives its y and z
 module _ (z : Sizes) (p : Place) (h : p.y < z.ny) where

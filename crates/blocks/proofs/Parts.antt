@@ -3,27 +3,23 @@ use mathlib.Core.Path.{◌≡◌, refl, sym, ap, subst, ◌∙◌}
 use mathlib.Core.Bool.{Bool, true, false, not, ◌&&◌, ◌||◌, and-false, or-false}
 use mathlib.Core.List.{List, [], ◌∷◌}
 use mathlib.Core.Logic.{⊎_elim}
-use Prim.Native.Nat.{ℕ, zero, suc, ◌+◌, ◌*◌, ◌/◌, ◌%◌, ◌^◌, ◌≤◌, ◌<◌}
-use native.Mathlib.Decide.{ℕ_discrete}
+use Prim.Native.Nat.{ℕ, zero, suc, ◌+◌, ◌*◌, ◌/◌, ◌^◌, ◌≤◌, ◌<◌}
 use native.Mathlib.Omega.{arith}
 use native.Mathlib.Numerals.{add-one}
-use native.Mathlib.Nat.{pow-suc, mul-add, mul_comm}
-use lib.Arith.{digits_mod, digits_div}
+use native.Mathlib.Nat.{pow-suc, mul-add}
 use lib.Pow.{pow_pos}
-use lib.Dec.{T, eqb, eqb→eq, leb, ltb}
-use lib.ListN.{length, get_or, length-set}
+use lib.Dec.{T, leb, ltb}
+use lib.ListN.{get_or}
 use borrow.Author.Tests.{lt-ltb, le-leb, lt-leb, ltb-true, ltb-false, leb-true}
 use Rattle.lists.specs.Lists.{range, any}
 use Rattle.lists.proofs.Runs.{any_snoc}
-use Rattle.lists.proofs.Member.{eq_to_t, and_both, and_left, and_right}
-use Rattle.lists.proofs.Closure.{bool_same}
-use Rattle.lists.proofs.Within.{t_to_false, eqb_of}
+use Rattle.lists.proofs.Member.{eq_to_t}
 use Rattle.paper.specs.declared.Sizes.{Sizes}
 use Rattle.paper.specs.declared.Place.{Place}
 use Rattle.paper.specs.Lattice.{place, mixed, in_lattice}
 use Rattle.paper.specs.Within.{CubeIn}
 use Rattle.paper.proofs.Judged.{both}
-use Rattle.paper.proofs.Visits.{in_lattice_law, lattice_in}
+use Rattle.paper.proofs.Visits.{in_lattice_law}
 use Rattle.bits.specs.Words.{bit}
 use Rattle.rows.specs.Rows.{row_no, quad_at, pairs, crossed_in, crossed_by}
 use Rattle.blocks.specs.Blocks.{within, in_block, half_at, part, in_parts, Block, side_by}

@@ -10,13 +10,13 @@ use lib.Dec.{T}
 use lib.IntN.{ℤ}
 use lib.ListN.{length, get_or, set, length-set, length-append}
 use lib.Seq.{sets}
-use Rattle.lists.specs.Lists.{range, cons_if, each, is_in}
+use Rattle.lists.specs.Lists.{cons_if, each, is_in}
 use Rattle.lists.proofs.Member.{t_to_eq, eq_to_t, and_left}
 use Rattle.lists.proofs.Runs.{each_append}
 use Rattle.lists.proofs.Stores.{sets_next, beyond_trans, beyond_set}
 use Rattle.paper.specs.declared.Sizes.{Sizes}
 use Rattle.paper.specs.declared.Place.{Place}
-use Rattle.paper.specs.Lattice.{Lattice, lattice, place, in_lattice, visitable, mixed_at, cubes, cube_no, cube_at, crossed, visited}
+use Rattle.paper.specs.Lattice.{Lattice, lattice, place, in_lattice, visitable, cubes, cube_no, crossed, visited}
 use Rattle.paper.specs.Within.{Sized, CubeIn}
 use Rattle.paper.proofs.Numbers.{cube_lt, cube_place}
 use Rattle.paper.proofs.Visits.{lattice_in, crossed_visitable}
@@ -29,7 +29,7 @@ use Rattle.spread.specs.Flooded.{Empty, cell, room, Flooded}
 use Rattle.spread.proofs.Visiting.{has_more}
 use Rattle.spread.proofs.Joining.{joined}
 use Rattle.tray.specs.Pieces.{begins, scanned}
-use Rattle.gather.specs.Gathering.{Held, held, Fit, Gathered, Passed, Leads, HasCrossed, row_start}
+use Rattle.gather.specs.Gathering.{Held, held, Fit, Gathered, Leads, HasCrossed, row_start}
 use Rattle.tray.proofs.Scanning.{scan_more}
 
 -- ── from cube to cube ──

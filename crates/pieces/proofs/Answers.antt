@@ -1,30 +1,29 @@
 -- The answer of a search and what it leaves, refusal by refusal. Assumes nothing.
 use mathlib.Core.Path.{◌≡◌, refl, sym, ap, subst, ◌∙◌}
-use mathlib.Core.Bool.{Bool, true, false, cond, ◌&&◌, and-false}
-use mathlib.Core.List.{List, [], ◌∷◌, ◌++◌}
-use Prim.Native.Nat.{ℕ, zero, suc, ◌+◌, ◌-◌, ◌*◌, ◌≤◌, ◌<◌}
+use mathlib.Core.Bool.{Bool, true, false, cond, and-false}
+use mathlib.Core.List.{List, [], ◌∷◌}
+use Prim.Native.Nat.{ℕ, ◌+◌, ◌-◌, ◌*◌, ◌≤◌}
 use native.Mathlib.Nat.{mul-le-mul}
 use native.Mathlib.Omega.{arith}
-use lib.Dec.{eqb, leb}
+use lib.Dec.{leb}
 use lib.IntN.{ℤ}
-use lib.ListN.{length, get_or, take, drop}
+use lib.ListN.{length, take, drop}
 use lib.Seq.{sets, take-append_seam}
 use borrow.Author.Tests.{ne_eqb, le-leb}
-use Rattle.lists.specs.Lists.{over, cleared, is_in, Beyond}
-use Rattle.lists.proofs.Every.{All}
+use Rattle.lists.specs.Lists.{over, cleared, Beyond}
 use Rattle.lists.proofs.Stores.{sets_front, beyond_refl, clear_beyond}
 use Rattle.paper.specs.declared.Sizes.{Sizes}
 use Rattle.paper.specs.declared.Verdict.{Verdict}
 use Rattle.paper.specs.Lattice.{Lattice, lattice, place, in_lattice, samples, cubes}
 use Rattle.paper.specs.Tests.{Test, judge, verdict}
-use Rattle.paper.specs.Room.{Work, Lengths, work, lengths, needed, needed_slots, clears, front_after, work_after, clean, output_after}
+use Rattle.paper.specs.Room.{Work, work, lengths, needed, needed_slots, clears, front_after, work_after, clean, output_after}
 use Rattle.paper.specs.Build.{shape_tests}
-use Rattle.paper.specs.Within.{Sized, Roomy}
+use Rattle.paper.specs.Within.{Sized}
 use Rattle.paper.proofs.Judged.{judge_past, judge_stop, judge_among}
 use Rattle.paper.proofs.Passing.{shape_numbered, work_kept, work_cleared}
 use Rattle.bits.specs.Words.{bit}
 use Rattle.bits.proofs.Bits.{bit_of_0}
-use Rattle.rows.specs.Rows.{is_one_of, HasBoth, HasCubes}
+use Rattle.rows.specs.Rows.{is_one_of, HasBoth}
 use Rattle.rows.proofs.Making.{row_lt}
 use Rattle.ways.specs.Ways.{words, rows_of, plan_of}
 use Rattle.spread.specs.Flooded.{Empty}

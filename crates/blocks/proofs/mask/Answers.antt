@@ -4,7 +4,6 @@ use Prim.Native.Nat.{ℕ, zero, suc, ◌-◌, ◌*◌, ◌^◌, ◌≤◌, ◌<�
 use native.Mathlib.Omega.{arith}
 use native.Mathlib.Nat.{pow-suc}
 use lib.Pow.{pow_pos, pow_mono}
-use borrow.Author.Rules.{rules}
 use Rattle.blocks.proofs.mask.Goals as goal
 use Rattle.blocks.proofs.mask.Goals.{Start}
 

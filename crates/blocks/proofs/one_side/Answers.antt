@@ -1,6 +1,6 @@
 -- Each row so far has the part that the first sample asks for. Assumes nothing.
 use mathlib.Core.Path.{◌≡◌, sym, ap, ◌∙◌}
-use Prim.Native.Nat.{ℕ, ◌-◌, ◌/◌, ◌^◌, ◌≤◌, ◌<◌}
+use Prim.Native.Nat.{ℕ, ◌/◌, ◌^◌, ◌≤◌, ◌<◌}
 use native.Mathlib.Omega.{arith}
 use lib.Bits.{bit_and}
 use borrow.Author.Count.{below_more}
@@ -9,7 +9,6 @@ use Rattle.bits.specs.Words.{bit}
 use Rattle.blocks.specs.Blocks.{OneSide, side_by}
 use Rattle.blocks.proofs.Parts.{never}
 use Rattle.blocks.proofs.Alike.{part_at, rows_alike, rows_differ}
-use borrow.Author.Rules.{rules}
 use Rattle.blocks.proofs.one_side.Goals as goal
 use Rattle.blocks.proofs.one_side.Goals.{After-part_of, At-loop-c}
 
@@ -63,11 +62,10 @@ pub overflow_sub-sizes : goal.overflow_sub-sizes
 overflow_sub-sizes c = omega (arith, c.requires.2.x)
 
 pub mask-m-requires : goal.mask-m-requires
-mask-m-requires c =
-    (
-      c.least.ensures.2 0 (omega arith) (omega (arith, c.requires.2.x)),
-      omega (arith, c.least.ensures.1, c.requires.0.x_high),
-    )
+mask-m-requires c = (
+  c.least.ensures.2 0 (omega arith) (omega (arith, c.requires.2.x)),
+  omega (arith, c.least.ensures.1, c.requires.0.x_high),
+)
 
 pub overflow_add-y : goal.overflow_add-y
 overflow_add-y c = omega (arith, c.requires.3.y)
@@ -110,12 +108,11 @@ part_is c =
     c.part_of.ensures ∙ ap (λ (w : ℕ). bit_and (w / 2 ^ o.args.x) (bits_of (goal.at.After-part_of c).At-loop-c)) c.row_of-in-loop-b.ensures
 
 pub returns-then-part_of-like : goal.returns-then-part_of-like
-returns-then-part_of-like c =
-    (
-      λ e. never (sym e),
-      λ e. one_differs (goal.at.returns-then-part_of-like c).At-loop-c c.loop-b.b c.loop-c.c c.loop-b.invariant.0 (omega arith) c.loop-c.invariant.0 (omega arith)
-          (λ q. c.if-part_of-like.true (part_is (goal.at.returns-then-part_of-like c).After-part_of ∙ q)),
-    )
+returns-then-part_of-like c = (
+  λ e. never (sym e),
+  λ e. one_differs (goal.at.returns-then-part_of-like c).At-loop-c c.loop-b.b c.loop-c.c c.loop-b.invariant.0 (omega arith) c.loop-c.invariant.0 (omega arith)
+      (λ q. c.if-part_of-like.true (part_is (goal.at.returns-then-part_of-like c).After-part_of ∙ q)),
+)
 
 pub overflow_step-b : goal.overflow_step-b
 overflow_step-b c = omega arith

@@ -1,15 +1,7 @@
 -- Each row so far has the part that the first sample asks for. Assumes nothing.
-use mathlib.Core.Path.{◌≡◌, sym, ap, ◌∙◌}
-use Prim.Native.Nat.{ℕ, ◌-◌, ◌/◌, ◌^◌, ◌≤◌, ◌<◌}
-use native.Mathlib.Omega.{arith}
-use lib.Bits.{bit_and}
-use borrow.Author.Count.{below_more}
-use Rattle.paper.specs.Lattice.{place}
-use Rattle.bits.specs.Words.{bit}
-use Rattle.blocks.specs.Blocks.{OneSide, side_by}
-use Rattle.blocks.proofs.Parts.{never}
-use Rattle.blocks.proofs.Alike.{part_at, rows_alike, rows_differ}
-use borrow.Author.Rules.{rules}
+use mathlib.Core.Path.{◌≡◌}
+use Prim.Native.Nat.{ℕ, ◌-◌, ◌≤◌, ◌<◌}
+use Rattle.blocks.proofs.Alike.{part_at}
 use Rattle.blocks.proofs.one_side.Given as goal
 
 abbrev pub invariant-loop-b : goal.invariant-loop-b
@@ -25,4 +17,3 @@ invariant-loop-c l =
 
 abbrev pub decreases-loop-c : goal.decreases-loop-c
 decreases-loop-c l = l.z_end - l.c
-

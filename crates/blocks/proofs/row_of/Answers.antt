@@ -3,7 +3,6 @@ use Prim.Native.Nat.{◌+◌, ◌*◌, ◌<◌}
 use native.Mathlib.Omega.{arith}
 use Rattle.lattice.proofs.Laws.{layer_few}
 use Rattle.rows.proofs.Making.{row_lt}
-use borrow.Author.Rules.{rules}
 use Rattle.blocks.proofs.row_of.Goals as goal
 use Rattle.blocks.proofs.row_of.Goals.{Start}
 

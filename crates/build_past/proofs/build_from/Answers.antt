@@ -1,5 +1,4 @@
 -- The visited cubes, the counts, tests 6 and 7, the sheet, and a clear. Assumes nothing.
-use borrow.Author.Rules.{rules}
 use native.Mathlib.Omega.{arith}
 use Rattle.paper.specs.Lattice.{Lattice, lattice}
 use Rattle.paper.proofs.Visits.{crossed_visitable}

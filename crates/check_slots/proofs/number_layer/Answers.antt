@@ -1,16 +1,14 @@
 -- After each row its slots are numbered behind those before it. Assumes nothing.
-use mathlib.Core.Path.{◌≡◌, refl, ◌∙◌}
+use mathlib.Core.Path.{refl, ◌∙◌}
 use mathlib.Core.List.{List}
-use Prim.Native.Nat.{ℕ, ◌-◌}
+use Prim.Native.Nat.{ℕ}
 use native.Mathlib.Omega.{arith}
-use lib.ListN.{length}
 use Rattle.paper.specs.declared.Rule.TheVariants.{Down}
 use Rattle.paper.specs.Lattice.{Lattice, lattice}
 use Rattle.dots.specs.Dots.{edges_of, layer_edges, Drawn, drawn}
-use Rattle.dots.proofs.Laws.{Numbering, numbering_none, numbering_long, numbering_few, numbering_more, numbering_all}
+use Rattle.dots.proofs.Laws.{numbering_none, numbering_long, numbering_few, numbering_more, numbering_all}
 use Rattle.dots.proofs.Laws.{draws_numbers, draws_long, crossed_part}
 use Rattle.dots.proofs.Rows.{row_few, layer_few}
-use borrow.Author.Rules.{rules}
 use Rattle.check_slots.proofs.number_layer.Goals as goal
 use Rattle.check_slots.proofs.number_layer.Goals.{At-loop-y, Start}
 
@@ -41,11 +39,11 @@ put_row_at-next-requires c =
       nz_in_bounds = c.requires.nz_in_bounds;
       crossed = crossed_part (volume (goal.at.put_row_at-next-requires c).Start) (edges (goal.at.put_row_at-next-requires c).Start) a.sizes.ny c.loop-y.y (omega arith) c.requires.crossed.0;
       fact = record {
-            since = omega arith;
-            room = omega (arith, row_few a.sizes w a.rows.now a.vis.now c.loop-y.y a.z, c.loop-y.invariant.1, c.requires.fact.3);
-            enough = omega (arith, c.requires.fact.2, long);
-            small = omega (arith, few, layer_few a.sizes w a.rows.now a.vis.now a.z, c.requires.crossed.1);
-          };
+        since = omega arith;
+        room = omega (arith, row_few a.sizes w a.rows.now a.vis.now c.loop-y.y a.z, c.loop-y.invariant.1, c.requires.fact.3);
+        enough = omega (arith, c.requires.fact.2, long);
+        small = omega (arith, few, layer_few a.sizes w a.rows.now a.vis.now a.z, c.requires.crossed.1);
+      };
     }
 
 pub loop-y-preserved : goal.loop-y-preserved

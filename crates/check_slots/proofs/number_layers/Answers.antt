@@ -1,14 +1,12 @@
 -- After each layer its slots are numbered behind those before it. Assumes nothing.
-use mathlib.Core.Path.{◌≡◌, refl, ◌∙◌}
+use mathlib.Core.Path.{refl, ◌∙◌}
 use mathlib.Core.List.{List}
-use Prim.Native.Nat.{ℕ, ◌-◌}
+use Prim.Native.Nat.{ℕ}
 use native.Mathlib.Omega.{arith}
-use lib.ListN.{length}
 use Rattle.paper.specs.Lattice.{lattice}
 use Rattle.dots.specs.Dots.{layer_edges, edges_by}
-use Rattle.dots.proofs.Laws.{Numbering, numbering_none, numbering_long, numbering_few, numbering_more, numbering_all, crossed_part}
+use Rattle.dots.proofs.Laws.{numbering_none, numbering_long, numbering_few, numbering_more, numbering_all, crossed_part}
 use Rattle.dots.proofs.Rows.{all_few}
-use borrow.Author.Rules.{rules}
 use Rattle.check_slots.proofs.number_layers.Goals as goal
 use Rattle.check_slots.proofs.number_layers.Goals.{Start}
 
@@ -30,9 +28,9 @@ number_layer-next-requires c =
       fact = (c.requires.full.0, omega arith, omega (arith, c.requires.full.1, long), omega (arith, c.requires.full.2, c.loop-z.invariant.1));
       nz_in_bounds = c.requires.nz_in_bounds;
       crossed = (
-          crossed_part (lattice a.sizes a.samples.now) (edges (goal.at.number_layer-next-requires c).Start) a.sizes.nz c.loop-z.z (omega arith) c.requires.crossed,
-          omega (arith, few, all_few a.sizes c.requires.full.0.sized a.rows.now a.vis.now),
-        );
+        crossed_part (lattice a.sizes a.samples.now) (edges (goal.at.number_layer-next-requires c).Start) a.sizes.nz c.loop-z.z (omega arith) c.requires.crossed,
+        omega (arith, few, all_few a.sizes c.requires.full.0.sized a.rows.now a.vis.now),
+      );
     }
 
 pub loop-z-preserved : goal.loop-z-preserved

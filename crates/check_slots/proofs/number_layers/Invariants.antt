@@ -1,14 +1,9 @@
 -- After each layer its slots are numbered behind those before it. Assumes nothing.
-use mathlib.Core.Path.{◌≡◌, refl, ◌∙◌}
-use mathlib.Core.List.{List}
-use Prim.Native.Nat.{ℕ, ◌-◌}
-use native.Mathlib.Omega.{arith}
+use mathlib.Core.Path.{◌≡◌}
+use Prim.Native.Nat.{◌-◌}
 use lib.ListN.{length}
-use Rattle.paper.specs.Lattice.{lattice}
-use Rattle.dots.specs.Dots.{layer_edges, edges_by}
-use Rattle.dots.proofs.Laws.{Numbering, numbering_none, numbering_long, numbering_few, numbering_more, numbering_all, crossed_part}
-use Rattle.dots.proofs.Rows.{all_few}
-use borrow.Author.Rules.{rules}
+use Rattle.dots.specs.Dots.{layer_edges}
+use Rattle.dots.proofs.Laws.{Numbering}
 use Rattle.check_slots.proofs.number_layers.Given as goal
 
 abbrev pub invariant-loop-z : goal.invariant-loop-z

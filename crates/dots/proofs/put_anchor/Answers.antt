@@ -1,12 +1,10 @@
 -- After each kind its vertex stands behind those before it. Assumes nothing.
 use mathlib.Core.Path.{◌≡◌}
-use Prim.Native.Nat.{◌-◌}
 use native.Mathlib.Omega.{arith}
 use lib.ListN.{length}
 use Rattle.paper.specs.Lattice.{Lattice, lattice}
 use Rattle.dots.specs.Dots.{edge_at, edges_at, Drawn, drawn}
-use Rattle.dots.proofs.Laws.{Drawing, drawing_none, drawing_long, drawing_room, drawing_more, drawing_all}
-use borrow.Author.Rules.{rules}
+use Rattle.dots.proofs.Laws.{drawing_none, drawing_long, drawing_room, drawing_more, drawing_all}
 use Rattle.dots.proofs.put_anchor.Goals as goal
 use Rattle.dots.proofs.put_anchor.Goals.{At-loop-kind, Start}
 
@@ -32,8 +30,8 @@ put_kind-next-requires c =
       full = (c.requires.full.0, c.requires.full.1, c.requires.full.2, omega arith);
       crossing = c.requires.crossing;
       roomy = drawing_room c.args.rule (volume (goal.at.put_kind-next-requires c).Start) (edge_at a.ks a.base) 7 a.first a.at p.kind p.next (lent (goal.at.put_kind-next-requires c).Start) (left (goal.at.put_kind-next-requires c).At-loop-kind)
-            p.invariant
-            _ c.requires.roomy (omega arith);
+          p.invariant
+          _ c.requires.roomy (omega arith);
     }
 
 pub loop-kind-preserved : goal.loop-kind-preserved

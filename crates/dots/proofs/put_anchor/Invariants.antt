@@ -1,12 +1,8 @@
 -- After each kind its vertex stands behind those before it. Assumes nothing.
-use mathlib.Core.Path.{◌≡◌}
 use Prim.Native.Nat.{◌-◌}
-use native.Mathlib.Omega.{arith}
-use lib.ListN.{length}
-use Rattle.paper.specs.Lattice.{Lattice, lattice}
-use Rattle.dots.specs.Dots.{edge_at, edges_at, Drawn, drawn}
-use Rattle.dots.proofs.Laws.{Drawing, drawing_none, drawing_long, drawing_room, drawing_more, drawing_all}
-use borrow.Author.Rules.{rules}
+use Rattle.paper.specs.Lattice.{lattice}
+use Rattle.dots.specs.Dots.{edge_at, drawn}
+use Rattle.dots.proofs.Laws.{Drawing}
 use Rattle.dots.proofs.put_anchor.Given as goal
 
 abbrev pub invariant-loop-kind : goal.invariant-loop-kind

@@ -10,7 +10,6 @@ use Rattle.paper.specs.Sheet.{vertex_record}
 use Rattle.bits.specs.Words.{bit}
 use Rattle.dots.specs.Dots.{edge_at, drawn}
 use Rattle.dots.proofs.Laws.{kind_on, kind_off, draws_kind, draws_empty}
-use borrow.Author.Rules.{rules}
 use Rattle.dots.proofs.put_kind.Goals as goal
 use Rattle.dots.proofs.put_kind.Goals.{Then-has_bit}
 

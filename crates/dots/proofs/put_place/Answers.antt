@@ -9,7 +9,6 @@ use Rattle.bits.specs.Words.{bit}
 use Rattle.dots.specs.Dots.{anchor_edges, drawn}
 use Rattle.dots.proofs.Laws.{draws_same, draws_empty}
 use Rattle.dots.proofs.Rows.{any_none, anchor_is, anchor_room, anchor_base, anchor_within, anchor_crossing}
-use borrow.Author.Rules.{rules}
 use Rattle.dots.proofs.put_place.Goals as goal
 
 pub has_bit-requires : goal.has_bit-requires
@@ -36,7 +35,7 @@ put_anchor-requires c =
       full = (c.requires.fact.0, h, anchor_base a.sizes a.p h a.row r);
       crossing = anchor_crossing L a.p h a.k a.row c.kinds_at-ks.result r e c.requires.crossed;
       roomy = anchor_room a.k a.row a.p.x c.kinds_at-ks.result e _ _ _ _ _ _ (anchor_within a.sizes a.p h a.row r)
-            c.requires.roomy;
+          c.requires.roomy;
     }
 
 pub returns-then-has_bit : goal.returns-then-has_bit

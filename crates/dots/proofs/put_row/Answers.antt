@@ -1,14 +1,13 @@
 -- After each anchor its vertices stand behind those before it. Assumes nothing.
 use mathlib.Core.Path.{◌≡◌, refl}
 use mathlib.Core.List.{List}
-use Prim.Native.Nat.{ℕ, ◌+◌, ◌-◌, ◌*◌}
+use Prim.Native.Nat.{ℕ, ◌+◌, ◌*◌}
 use native.Mathlib.Omega.{arith}
 use lib.ListN.{length}
 use Rattle.lattice.proofs.Laws.{Parts, parts}
 use Rattle.paper.specs.Lattice.{Lattice, lattice}
 use Rattle.dots.specs.Dots.{anchor_edges, row_edges, Drawn, drawn}
-use Rattle.dots.proofs.Laws.{Drawing, drawing_none, drawing_long, drawing_room, drawing_more, drawing_all, crossed_part}
-use borrow.Author.Rules.{rules}
+use Rattle.dots.proofs.Laws.{drawing_none, drawing_long, drawing_room, drawing_more, drawing_all, crossed_part}
 use Rattle.dots.proofs.put_row.Goals as goal
 use Rattle.dots.proofs.put_row.Goals.{At-loop-x, Start}
 
@@ -60,8 +59,8 @@ put_place-next-requires c =
       );
       crossed = crossed_part (volume (goal.at.put_place-next-requires c).Start) (edges (goal.at.put_place-next-requires c).Start) a.sizes.nx c.loop-x.x (omega arith) c.requires.crossed;
       roomy = drawing_room c.args.rule (volume (goal.at.put_place-next-requires c).Start) (edges (goal.at.put_place-next-requires c).Start) a.sizes.nx a.first a.at c.loop-x.x c.loop-x.next (lent (goal.at.put_place-next-requires c).Start)
-            (left (goal.at.put_place-next-requires c).At-loop-x) c.loop-x.invariant _
-            c.requires.fact (omega arith);
+          (left (goal.at.put_place-next-requires c).At-loop-x) c.loop-x.invariant _
+          c.requires.fact (omega arith);
     }
 
 pub loop-x-preserved : goal.loop-x-preserved

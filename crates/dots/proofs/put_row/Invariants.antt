@@ -1,14 +1,8 @@
 -- After each anchor its vertices stand behind those before it. Assumes nothing.
-use mathlib.Core.Path.{◌≡◌, refl}
-use mathlib.Core.List.{List}
-use Prim.Native.Nat.{ℕ, ◌+◌, ◌-◌, ◌*◌}
-use native.Mathlib.Omega.{arith}
-use lib.ListN.{length}
-use Rattle.lattice.proofs.Laws.{Parts, parts}
-use Rattle.paper.specs.Lattice.{Lattice, lattice}
-use Rattle.dots.specs.Dots.{anchor_edges, row_edges, Drawn, drawn}
-use Rattle.dots.proofs.Laws.{Drawing, drawing_none, drawing_long, drawing_room, drawing_more, drawing_all, crossed_part}
-use borrow.Author.Rules.{rules}
+use Prim.Native.Nat.{◌+◌, ◌-◌, ◌*◌}
+use Rattle.paper.specs.Lattice.{lattice}
+use Rattle.dots.specs.Dots.{anchor_edges, drawn}
+use Rattle.dots.proofs.Laws.{Drawing}
 use Rattle.dots.proofs.put_row.Given as goal
 
 abbrev pub invariant-loop-x : goal.invariant-loop-x

@@ -8,7 +8,6 @@ use Rattle.paper.specs.Room.{needed_slots}
 use Rattle.dots.specs.Dots.{row_edges, edges_of, Drawn, drawn, Crossed, Roomy}
 use Rattle.dots.proofs.Laws.{draws_same, draws_empty}
 use Rattle.dots.proofs.Rows.{edges_are, no_edges}
-use borrow.Author.Rules.{rules}
 use Rattle.dots.proofs.put_row_at.Goals as goal
 use Rattle.dots.proofs.put_row_at.Goals.{After-kinds-k, Start}
 
@@ -42,7 +41,7 @@ put_row-requires c =
       full = c.requires.full;
       crossed = subst (Crossed (volume (goal.at.put_row-requires c).Start)) (sym (row_is (goal.at.put_row-requires c).After-kinds-k)) c.requires.crossed;
       fact = subst (λ (es : List ℕ). Roomy es a.first a.at (needed_slots a.sizes) (length a.vertices.now) (length a.slots.now))
-            (sym (row_is (goal.at.put_row-requires c).After-kinds-k)) c.requires.fact;
+          (sym (row_is (goal.at.put_row-requires c).After-kinds-k)) c.requires.fact;
     }
 
 pub returns : goal.returns

@@ -1,10 +1,9 @@
 -- The pass has come to layer z. Assumes nothing.
-use mathlib.Core.Path.{◌≡◌, refl, sym, ap, ◌∙◌}
-use Prim.Native.Nat.{ℕ, ◌-◌, ◌≤◌}
+use mathlib.Core.Path.{◌≡◌, refl, ap, ◌∙◌}
+use Prim.Native.Nat.{ℕ, ◌-◌}
 use native.Mathlib.Omega.{arith}
-use Rattle.gather.specs.Gathering.{held, row_start}
-use Rattle.gather.proofs.Passes.{Walk, walk_none, walk_more, walk_to, next_layer, first_cube, all_cubes}
-use borrow.Author.Rules.{rules}
+use Rattle.gather.specs.Gathering.{row_start}
+use Rattle.gather.proofs.Passes.{walk_none, walk_more, walk_to, next_layer, first_cube, all_cubes}
 use Rattle.gather.proofs.scan_lattice.Goals as goal
 
 pub overflow_sub-z-end : goal.overflow_sub-z-end
@@ -20,10 +19,10 @@ loop-z-init c =
 
 pub scan_layer-count-requires : goal.scan_layer-count-requires
 scan_layer-count-requires c = record {
-      sized = (c.requires.sized.0, omega arith, c.requires.sized.1, c.requires.sized.2, c.requires.sized.3);
-      has_cubes = c.requires.has_cubes;
-      fact = (c.loop-z.invariant.1.leads.fit, c.loop-z.invariant.1.empty);
-    }
+  sized = (c.requires.sized.0, omega arith, c.requires.sized.1, c.requires.sized.2, c.requires.sized.3);
+  has_cubes = c.requires.has_cubes;
+  fact = (c.loop-z.invariant.1.leads.fit, c.loop-z.invariant.1.empty);
+}
 
 pub overflow_step-z : goal.overflow_step-z
 overflow_step-z c = omega arith

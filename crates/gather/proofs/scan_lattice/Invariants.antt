@@ -1,10 +1,7 @@
 -- The pass has come to layer z. Assumes nothing.
-use mathlib.Core.Path.{◌≡◌, refl, sym, ap, ◌∙◌}
-use Prim.Native.Nat.{ℕ, ◌-◌, ◌≤◌}
-use native.Mathlib.Omega.{arith}
+use Prim.Native.Nat.{◌-◌, ◌≤◌}
 use Rattle.gather.specs.Gathering.{held, row_start}
-use Rattle.gather.proofs.Passes.{Walk, walk_none, walk_more, walk_to, next_layer, first_cube, all_cubes}
-use borrow.Author.Rules.{rules}
+use Rattle.gather.proofs.Passes.{Walk}
 use Rattle.gather.proofs.scan_lattice.Given as goal
 
 abbrev pub invariant-loop-z : goal.invariant-loop-z
@@ -13,4 +10,3 @@ invariant-loop-z l =
 
 abbrev pub decreases-loop-z : goal.decreases-loop-z
 decreases-loop-z l = l.sizes.nz - 1 - l.z
-

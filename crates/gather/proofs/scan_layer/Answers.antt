@@ -1,14 +1,13 @@
 -- The pass has come to row y of the layer. Assumes nothing.
-use mathlib.Core.Path.{◌≡◌, refl, sym, ap, ◌∙◌}
-use Prim.Native.Nat.{ℕ, ◌+◌, ◌-◌, ◌*◌, ◌≤◌, ◌<◌}
+use mathlib.Core.Path.{◌≡◌, refl, ap}
+use Prim.Native.Nat.{ℕ, ◌+◌, ◌-◌, ◌*◌, ◌<◌}
 use native.Mathlib.Omega.{arith}
 use Rattle.paper.specs.Lattice.{lattice, place}
 use Rattle.lattice.proofs.Laws.{layer_few}
 use Rattle.rows.proofs.Making.{row_lt}
 use Rattle.blocks.proofs.Whole.{found_crossed}
-use Rattle.gather.specs.Gathering.{held, row_start}
-use Rattle.gather.proofs.Passes.{Walk, walk_none, walk_more, walk_to, next_row}
-use borrow.Author.Rules.{rules}
+use Rattle.gather.specs.Gathering.{row_start}
+use Rattle.gather.proofs.Passes.{walk_none, walk_more, walk_to, next_row}
 use Rattle.gather.proofs.scan_layer.Goals as goal
 use Rattle.gather.proofs.scan_layer.Goals.{In-loop-y}
 

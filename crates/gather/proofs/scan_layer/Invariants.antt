@@ -1,14 +1,7 @@
 -- The pass has come to row y of the layer. Assumes nothing.
-use mathlib.Core.Path.{◌≡◌, refl, sym, ap, ◌∙◌}
-use Prim.Native.Nat.{ℕ, ◌+◌, ◌-◌, ◌*◌, ◌≤◌, ◌<◌}
-use native.Mathlib.Omega.{arith}
-use Rattle.paper.specs.Lattice.{lattice, place}
-use Rattle.lattice.proofs.Laws.{layer_few}
-use Rattle.rows.proofs.Making.{row_lt}
-use Rattle.blocks.proofs.Whole.{found_crossed}
+use Prim.Native.Nat.{◌-◌, ◌≤◌}
 use Rattle.gather.specs.Gathering.{held, row_start}
-use Rattle.gather.proofs.Passes.{Walk, walk_none, walk_more, walk_to, next_row}
-use borrow.Author.Rules.{rules}
+use Rattle.gather.proofs.Passes.{Walk}
 use Rattle.gather.proofs.scan_layer.Given as goal
 
 abbrev pub invariant-loop-y : goal.invariant-loop-y
@@ -18,4 +11,3 @@ invariant-loop-y l =
 
 abbrev pub decreases-loop-y : goal.decreases-loop-y
 decreases-loop-y l = l.sizes.ny - 1 - l.y
-

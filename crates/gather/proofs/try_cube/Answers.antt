@@ -9,7 +9,6 @@ use Rattle.rows.proofs.Making.{row_lt}
 use Rattle.spread.proofs.Joining.{row_of_law, row_small}
 use Rattle.gather.specs.Gathering.{Held, held}
 use Rattle.gather.proofs.Passes.{leads_skip, leads_take}
-use borrow.Author.Rules.{rules}
 use borrow.Author.Tests.{not-true, not-false}
 use Rattle.gather.proofs.try_cube.Goals as goal
 use Rattle.gather.proofs.try_cube.Goals.{After-cube_no, Start}

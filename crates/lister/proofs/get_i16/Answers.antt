@@ -3,7 +3,6 @@ use mathlib.Core.Path.{ap, ◌∙◌}
 use mir.Facts.{to_z-of_z}
 use mir.Syntax.{w16}
 use Rattle.lister.specs.Listing.{signed16}
-use borrow.Author.Rules.{rules}
 use Rattle.lister.proofs.get_i16.Goals as goal
 
 pub returns : goal.returns

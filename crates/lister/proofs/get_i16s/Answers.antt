@@ -1,11 +1,11 @@
 -- `lister::get_i16s` meets its contract. The loop's invariant: the numbers passed are stored, and nothing else. Assumes nothing.
 use mathlib.Core.Path.{◌≡◌, refl, ap, ◌∙◌}
-use Prim.Native.Nat.{ℕ, ◌-◌, ◌≤◌}
+use Prim.Native.Nat.{ℕ}
 use native.Mathlib.Omega.{arith}
 use mir.Syntax.{w16}
 use mir.Facts.{to_z-of_z}
 use mathlib.Core.List.{map}
-use lib.ListN.{length, length-set}
+use lib.ListN.{length-set}
 use lib.Seq.{sets}
 use Rattle.lists.specs.Lists.{range}
 use Rattle.lister.specs.Listing.{signed16}

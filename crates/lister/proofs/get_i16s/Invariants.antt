@@ -1,15 +1,12 @@
 -- `lister::get_i16s` meets its contract. The loop's invariant: the numbers passed are stored, and nothing else. Assumes nothing.
-use mathlib.Core.Path.{◌≡◌, refl, ap, ◌∙◌}
-use Prim.Native.Nat.{ℕ, ◌-◌, ◌≤◌}
-use native.Mathlib.Omega.{arith}
-use mir.Syntax.{w16}
-use mir.Facts.{to_z-of_z}
+use mathlib.Core.Path.{◌≡◌}
+use Prim.Native.Nat.{◌-◌, ◌≤◌}
 use mathlib.Core.List.{map}
-use lib.ListN.{length, length-set}
+use lib.ListN.{length}
 use lib.Seq.{sets}
 use Rattle.lists.specs.Lists.{range}
 use Rattle.lister.specs.Listing.{signed16}
-use Rattle.codec.proofs.Runs.{word_at, get_more}
+use Rattle.codec.proofs.Runs.{word_at}
 use Rattle.lister.proofs.get_i16s.Given as goal
 
 abbrev pub invariant-loop-i : goal.invariant-loop-i

@@ -2,7 +2,6 @@
 use mathlib.Core.Path.{ap}
 use Rattle.paper.specs.Build.{Lent}
 use Rattle.lister.specs.Listing.{listing_room}
-use borrow.Author.Rules.{rules}
 use Rattle.lister.proofs.mesh.Goals as goal
 
 pub returns : goal.returns

@@ -8,7 +8,6 @@ use mir.Val.{SFits, to_z}
 use mir.Facts.{to_z_pos, to_z-of_z}
 use Rattle.paper.proofs.Ints.{sub_neg}
 use Rattle.codec.proofs.Signed.{signed_low, signed_high}
-use borrow.Author.Rules.{rules}
 use Rattle.lister.proofs.signed_of.Goals as goal
 use Rattle.lister.proofs.signed_of.Goals.{Else-b-lt32768}
 

@@ -1,5 +1,4 @@
 -- `lister::sizes_of` meets its contract: each size is a number of the header. Assumes nothing.
-use borrow.Author.Rules.{rules}
 use Rattle.lister.specs.Listing.{listed_sizes}
 use Rattle.lister.proofs.sizes_of.Goals as goal
 

@@ -12,7 +12,6 @@ use Rattle.paper.specs.Tests.{verdict, judge}
 use Rattle.paper.proofs.Judged.{sized}
 use Rattle.layout.proofs.Flags.{fails, passes}
 use Rattle.lister.specs.Listing.{listed_sizes, listable, listing_tests, listing_number}
-use borrow.Author.Rules.{rules}
 use Rattle.lister.proofs.tested.Goals as goal
 use Rattle.lister.proofs.tested.Goals.{After-axes_pass, After-in_room, After-sample_count, Else-input-lt6}
 

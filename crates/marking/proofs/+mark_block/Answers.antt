@@ -3,7 +3,7 @@ use mathlib.Core.Path.{◌≡◌, refl}
 use Prim.Native.Nat.{◌/◌, ◌<◌}
 use native.Mathlib.Omega.{arith}
 use Rattle.paper.specs.Lattice.{place}
-use Rattle.blocks.specs.Blocks.{in_block, part, Quiet, crossed_where, Marked}
+use Rattle.blocks.specs.Blocks.{in_block, part, crossed_where}
 use Rattle.blocks.proofs.Marks.{marked_none}
 use Rattle.blocks.proofs.Parts.{outside_quiet, one_side_quiet, quiet_none, halved, part_block, parts_begin, parts_next, parts_end}
 use Rattle.marking.proofs.+mark_block.Goals as goal
@@ -32,8 +32,7 @@ loop-k-init t c =
 pub mark_block-requires : goal.mark_block-requires
 mark_block-requires t c =
     let a = c.args in
-    let r = c.requires in
-    (
+    let r = c.requires in (
       omega arith,
       (
         r.0,

@@ -1,6 +1,5 @@
 -- The first k parts of the block have their marks. The measure is the block's size.
 use mathlib.Core.Path.{◌≡◌}
-use Prim.Native.Nat.{◌-◌, ◌≤◌}
 use lib.ListN.{length}
 use Rattle.paper.specs.Lattice.{place}
 use Rattle.blocks.specs.Blocks.{in_parts, crossed_where, Marked}

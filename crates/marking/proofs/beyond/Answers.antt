@@ -4,7 +4,6 @@ use Prim.Native.Nat.{◌+◌}
 use native.Mathlib.Omega.{arith}
 use borrow.Author.Tests.{leb-true, leb-false}
 use Rattle.blocks.proofs.Parts.{never}
-use borrow.Author.Rules.{rules}
 use Rattle.marking.proofs.beyond.Goals as goal
 
 pub returns-then-sizes-x : goal.returns-then-sizes-x

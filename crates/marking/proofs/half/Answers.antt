@@ -5,7 +5,6 @@ use Prim.Native.Nat.{◌+◌}
 use native.Mathlib.Omega.{arith}
 use borrow.Author.Tests.{eq-eqb, ne_eqb}
 use Rattle.blocks.specs.Blocks.{half_at}
-use borrow.Author.Rules.{rules}
 use Rattle.marking.proofs.half.Goals as goal
 
 pub returns-then-d-eq0 : goal.returns-then-d-eq0

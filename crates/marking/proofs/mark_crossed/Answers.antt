@@ -1,7 +1,6 @@
 -- The block is the whole lattice. Assumes nothing.
 use Rattle.paper.specs.Lattice.{lattice}
 use Rattle.blocks.proofs.Whole.{whole_block, whole_cubes}
-use borrow.Author.Rules.{rules}
 use Rattle.marking.proofs.mark_crossed.Goals as goal
 
 pub mark_block-requires : goal.mark_block-requires

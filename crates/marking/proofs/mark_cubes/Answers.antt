@@ -1,13 +1,10 @@
 -- The layers so far have their marks; each axis is cut off at the lattice's end. Assumes nothing.
-use mathlib.Core.Path.{◌≡◌, refl}
-use Prim.Native.Nat.{ℕ, ◌+◌, ◌-◌, ◌≤◌, ◌<◌}
+use mathlib.Core.Path.{refl}
+use Prim.Native.Nat.{◌+◌, ◌-◌, ◌≤◌}
 use native.Mathlib.Omega.{arith}
-use lib.ListN.{length}
 use Rattle.paper.specs.Lattice.{place}
-use Rattle.blocks.specs.Blocks.{in_box, crossed_where, Marked}
 use Rattle.blocks.proofs.Parts.{some}
 use Rattle.blocks.proofs.Boxes.{layers_begin, layers_next, layers_end, block_marked}
-use borrow.Author.Rules.{rules}
 use Rattle.marking.proofs.mark_cubes.Goals as goal
 use Rattle.marking.proofs.mark_cubes.Goals.{After-least-z_end}
 

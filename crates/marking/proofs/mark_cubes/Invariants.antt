@@ -1,13 +1,9 @@
 -- The layers so far have their marks; each axis is cut off at the lattice's end. Assumes nothing.
-use mathlib.Core.Path.{◌≡◌, refl}
-use Prim.Native.Nat.{ℕ, ◌+◌, ◌-◌, ◌≤◌, ◌<◌}
-use native.Mathlib.Omega.{arith}
+use mathlib.Core.Path.{◌≡◌}
+use Prim.Native.Nat.{◌-◌, ◌≤◌}
 use lib.ListN.{length}
 use Rattle.paper.specs.Lattice.{place}
 use Rattle.blocks.specs.Blocks.{in_box, crossed_where, Marked}
-use Rattle.blocks.proofs.Parts.{some}
-use Rattle.blocks.proofs.Boxes.{layers_begin, layers_next, layers_end, block_marked}
-use borrow.Author.Rules.{rules}
 use Rattle.marking.proofs.mark_cubes.Given as goal
 
 abbrev pub invariant-loop-c : goal.invariant-loop-c
@@ -17,4 +13,3 @@ invariant-loop-c l =
 
 abbrev pub decreases-loop-c : goal.decreases-loop-c
 decreases-loop-c l = l.z_end - l.c
-

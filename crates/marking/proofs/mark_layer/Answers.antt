@@ -1,12 +1,9 @@
 -- The rows so far have their marks. Assumes nothing.
-use mathlib.Core.Path.{◌≡◌, refl}
-use Prim.Native.Nat.{ℕ, ◌+◌, ◌-◌, ◌≤◌, ◌<◌}
+use mathlib.Core.Path.{refl}
+use Prim.Native.Nat.{◌+◌, ◌-◌}
 use native.Mathlib.Omega.{arith}
-use lib.ListN.{length}
 use Rattle.paper.specs.Lattice.{place}
-use Rattle.blocks.specs.Blocks.{in_box, crossed_where, Marked}
 use Rattle.blocks.proofs.Boxes.{rows_begin, rows_next, rows_end}
-use borrow.Author.Rules.{rules}
 use Rattle.marking.proofs.mark_layer.Goals as goal
 
 pub loop-b-init : goal.loop-b-init

@@ -1,12 +1,9 @@
 -- The rows so far have their marks. Assumes nothing.
-use mathlib.Core.Path.{◌≡◌, refl}
-use Prim.Native.Nat.{ℕ, ◌+◌, ◌-◌, ◌≤◌, ◌<◌}
-use native.Mathlib.Omega.{arith}
+use mathlib.Core.Path.{◌≡◌}
+use Prim.Native.Nat.{◌-◌, ◌≤◌}
 use lib.ListN.{length}
 use Rattle.paper.specs.Lattice.{place}
 use Rattle.blocks.specs.Blocks.{in_box, crossed_where, Marked}
-use Rattle.blocks.proofs.Boxes.{rows_begin, rows_next, rows_end}
-use borrow.Author.Rules.{rules}
 use Rattle.marking.proofs.mark_layer.Given as goal
 
 abbrev pub invariant-loop-b : goal.invariant-loop-b
@@ -16,4 +13,3 @@ invariant-loop-b l =
 
 abbrev pub decreases-loop-b : goal.decreases-loop-b
 decreases-loop-b l = l.end - l.b
-

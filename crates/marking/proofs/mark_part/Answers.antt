@@ -1,9 +1,9 @@
 -- The crossed cubes of a part of a row are marked in its word. Assumes nothing.
-use mathlib.Core.Path.{◌≡◌, sym, subst}
+use mathlib.Core.Path.{sym, subst}
 use Prim.Native.Nat.{ℕ, ◌+◌, ◌-◌, ◌*◌, ◌^◌, ◌≤◌, ◌<◌}
 use native.Mathlib.Omega.{arith}
 use lib.Bits.{bit_and}
-use lib.Pow.{pow_pos, pow_mono}
+use lib.Pow.{pow_mono}
 use Rattle.paper.specs.Lattice.{place}
 use Rattle.lattice.proofs.Laws.{layer_few}
 use Rattle.rows.proofs.Making.{row_lt}
@@ -11,7 +11,6 @@ use Rattle.rows.proofs.Cubes.{row_bit}
 use Rattle.blocks.specs.Blocks.{in_box, crossed_where, Marked}
 use Rattle.blocks.proofs.Marks.{marked_in}
 use Rattle.blocks.proofs.Boxes.{part_marked}
-use borrow.Author.Rules.{rules}
 use Rattle.marking.proofs.mark_part.Goals as goal
 use Rattle.marking.proofs.mark_part.Goals.{Start}
 

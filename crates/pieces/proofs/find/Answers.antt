@@ -13,7 +13,6 @@ use Rattle.rows.proofs.Cubes.{made_rows, made_free}
 use Rattle.ways.proofs.Ways.{words_le}
 use Rattle.tray.specs.Pieces.{Lent, lent}
 use Rattle.pieces.proofs.Answers.{refused, settled}
-use borrow.Author.Rules.{rules}
 use Rattle.pieces.proofs.find.Goals as goal
 use Rattle.pieces.proofs.find.Goals.{Else-number-ne0, Start}
 

@@ -3,7 +3,6 @@ use native.Mathlib.Omega.{arith}
 use Rattle.ways.proofs.Ways.{words_le}
 use Rattle.spread.proofs.Joining.{fresh}
 use Rattle.pieces.proofs.Answers.{fit_begun, on_waiting, on_slots, count_few, finds_none, finds_some}
-use borrow.Author.Rules.{rules}
 use Rattle.pieces.proofs.find_past.Goals as goal
 
 -- ── stages ──

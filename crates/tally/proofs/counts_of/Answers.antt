@@ -1,10 +1,10 @@
 -- After z layers theirs are summed. Assumes nothing.
 use mathlib.Core.Path.{◌≡◌, ap, ◌∙◌}
-use Prim.Native.Nat.{◌-◌, ◌≤◌}
+use Prim.Native.Nat.{◌≤◌}
 use native.Mathlib.Omega.{arith}
 use Rattle.paper.specs.Lattice.{lattice}
 use Rattle.bits.specs.Words.{total}
-use Rattle.tally.specs.Tally.{layer_vertices, layer_triangles, Summed}
+use Rattle.tally.specs.Tally.{layer_vertices, layer_triangles}
 use Rattle.tally.proofs.Totals.{summed_none, summed_more}
 use Rattle.tally.proofs.Sheets.{vertices_are, triangles_are}
 use Rattle.tally.proofs.counts_of.Goals as goal
@@ -19,9 +19,9 @@ loop-z-init c =
 
 pub layer_counts-c-requires : goal.layer_counts-c-requires
 layer_counts-c-requires c = record {
-      sized = (c.requires.0, c.requires.1);
-      nz_in_bounds = (c.requires.2, omega arith);
-    }
+  sized = (c.requires.0, c.requires.1);
+  nz_in_bounds = (c.requires.2, omega arith);
+}
 
 few_vertices : (c : goal.After-layer_counts-c) → c.layer_counts-c.result.vertices ≤ 28672
 few_vertices c = omega (arith, c.layer_counts-c.ensures.few_vertices, c.requires.0.y_high)

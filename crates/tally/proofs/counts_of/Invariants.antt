@@ -1,12 +1,6 @@
 -- After z layers theirs are summed. Assumes nothing.
-use mathlib.Core.Path.{◌≡◌, ap, ◌∙◌}
 use Prim.Native.Nat.{◌-◌, ◌≤◌}
-use native.Mathlib.Omega.{arith}
-use Rattle.paper.specs.Lattice.{lattice}
-use Rattle.bits.specs.Words.{total}
 use Rattle.tally.specs.Tally.{layer_vertices, layer_triangles, Summed}
-use Rattle.tally.proofs.Totals.{summed_none, summed_more}
-use Rattle.tally.proofs.Sheets.{vertices_are, triangles_are}
 use Rattle.tally.proofs.counts_of.Given as goal
 
 -- a layer has at most 64 rows, of 448 vertices and 768 triangles each

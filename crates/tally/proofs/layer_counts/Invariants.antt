@@ -1,14 +1,6 @@
 -- After y rows theirs are summed. Assumes nothing.
-use mathlib.Core.Path.{◌≡◌, ap, subst, ◌∙◌}
-use mathlib.Core.List.{List}
-use Prim.Native.Nat.{ℕ, ◌-◌, ◌≤◌}
-use native.Mathlib.Omega.{arith}
-use Rattle.lists.specs.Lists.{range, count}
-use Rattle.paper.specs.declared.Sizes.{Sizes}
-use Rattle.rows.specs.declared.Quad.{Quad}
-use Rattle.kinds.specs.Kinds.{kinds_of, is_edge, sides_around, cubes_around, kinds_by}
-use Rattle.tally.specs.Tally.{vertices_by, triangles_of, triangles_by, Summed}
-use Rattle.tally.proofs.Totals.{summed_none, summed_more}
+use Prim.Native.Nat.{◌-◌, ◌≤◌}
+use Rattle.tally.specs.Tally.{vertices_by, triangles_by, Summed}
 use Rattle.tally.proofs.layer_counts.Given as goal
 
 abbrev pub invariant-loop-y : goal.invariant-loop-y

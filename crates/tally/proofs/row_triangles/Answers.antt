@@ -9,7 +9,6 @@ use Rattle.kinds.specs.Triangles.{row_total}
 use Rattle.tally.specs.Tally.{triangles_of}
 use Rattle.tally.proofs.Empty.{no_triangles}
 use Rattle.tally.proofs.Sheets.{none_past_y, none_past_z, row_of_cubes}
-use borrow.Author.Rules.{rules}
 use Rattle.tally.proofs.row_triangles.Goals as goal
 use Rattle.tally.proofs.row_triangles.Goals.{After-struct_known-3-1}
 

@@ -6,7 +6,6 @@ use Rattle.rows.specs.declared.Quad.{Quad}
 use Rattle.kinds.specs.declared.KindWords.{KindWords}
 use Rattle.kinds.specs.Kinds.{kinds_of, is_edge, sides_around}
 use Rattle.tally.proofs.Empty.{no_vertices}
-use borrow.Author.Rules.{rules}
 use Rattle.tally.proofs.row_vertices.Goals as goal
 
 pub returns-then-some-eq0 : goal.returns-then-some-eq0

@@ -1,14 +1,13 @@
 -- After i numbers the first i are stored. Assumes nothing.
 use mathlib.Core.Path.{◌≡◌, refl, sym, ap, ◌∙◌}
 use mathlib.Core.List.{[], ◌∷◌}
-use Prim.Native.Nat.{ℕ, ◌+◌, ◌-◌, ◌<◌}
+use Prim.Native.Nat.{ℕ, ◌+◌, ◌<◌}
 use native.Mathlib.Omega.{arith}
 use lib.ListN.{length, get_or}
 use lib.Seq.{sets, length-sets}
 use Rattle.lists.proofs.Stores.{sets_next}
 use Rattle.tiles.specs.Tiles.{Source, source, edge_in}
-use Rattle.tiles.proofs.Laws.{Storing, tile_upto, upto_length, upto_none, upto_more, upto_all, tile_length}
-use borrow.Author.Rules.{rules}
+use Rattle.tiles.proofs.Laws.{tile_upto, upto_length, upto_none, upto_more, upto_all, tile_length}
 use Rattle.tiles.proofs.put_cube.Goals as goal
 use Rattle.tiles.proofs.put_cube.Goals.{At-loop-i, In-loop-i, Start}
 

@@ -3,8 +3,7 @@ use mathlib.Core.List.{List}
 use Prim.Native.Nat.{ℕ, ◌-◌}
 use native.Mathlib.Omega.{arith}
 use Rattle.tiles.specs.Tiles.{source, row_tiles_at, layer_tiles}
-use Rattle.tiles.proofs.Laws.{Laid, laid_none, laid_long, laid_fit, laid_more, laid_all}
-use borrow.Author.Rules.{rules}
+use Rattle.tiles.proofs.Laws.{laid_none, laid_long, laid_fit, laid_more, laid_all}
 use Rattle.tiles.proofs.put_layer.Goals as goal
 use Rattle.tiles.proofs.put_layer.Goals.{Start}
 
@@ -27,7 +26,7 @@ put_row_at-next-requires c =
       sized = c.requires.sized;
       fact = (c.requires.fact.0, c.requires.fact.1, omega arith, c.requires.fact.2);
       z_in_bounds = laid_fit (one (goal.at.put_row_at-next-requires c).Start) a.at (end (goal.at.put_row_at-next-requires c).Start) c.loop-y.y c.loop-y.next a.out.now c.loop-y.out c.loop-y.invariant (omega arith)
-            c.requires.z_in_bounds;
+          c.requires.z_in_bounds;
     }
 
 pub loop-y-preserved : goal.loop-y-preserved

@@ -1,10 +1,7 @@
 -- After y rows their triangles are stored. Assumes nothing.
-use mathlib.Core.List.{List}
-use Prim.Native.Nat.{ℕ, ◌-◌}
-use native.Mathlib.Omega.{arith}
-use Rattle.tiles.specs.Tiles.{source, row_tiles_at, layer_tiles}
-use Rattle.tiles.proofs.Laws.{Laid, laid_none, laid_long, laid_fit, laid_more, laid_all}
-use borrow.Author.Rules.{rules}
+use Prim.Native.Nat.{◌-◌}
+use Rattle.tiles.specs.Tiles.{source, row_tiles_at}
+use Rattle.tiles.proofs.Laws.{Laid}
 use Rattle.tiles.proofs.put_layer.Given as goal
 
 abbrev pub invariant-loop-y : goal.invariant-loop-y

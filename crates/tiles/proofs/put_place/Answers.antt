@@ -8,7 +8,6 @@ use lib.Seq.{sets}
 use Rattle.lists.proofs.Member.{eq_to_t}
 use Rattle.tiles.specs.Tiles.{Source, source, tile_of, tile_at, Reaching}
 use Rattle.tiles.proofs.Laws.{tile_length, place_on, place_off}
-use borrow.Author.Rules.{rules}
 use Rattle.tiles.proofs.put_place.Goals as goal
 use Rattle.tiles.proofs.put_place.Goals.{After-pattern-m, Start}
 

@@ -1,12 +1,11 @@
 -- After x cubes their triangles are stored. Assumes nothing.
 use mathlib.Core.Path.{◌≡◌}
 use mathlib.Core.List.{List}
-use Prim.Native.Nat.{ℕ, ◌-◌}
+use Prim.Native.Nat.{ℕ}
 use native.Mathlib.Omega.{arith}
 use lib.ListN.{length}
 use Rattle.tiles.specs.Tiles.{source, tile_at, row_tiles}
-use Rattle.tiles.proofs.Laws.{Laid, laid_none, laid_long, laid_fit, laid_more, laid_all}
-use borrow.Author.Rules.{rules}
+use Rattle.tiles.proofs.Laws.{laid_none, laid_long, laid_fit, laid_more, laid_all}
 use Rattle.tiles.proofs.put_row.Goals as goal
 use Rattle.tiles.proofs.put_row.Goals.{At-loop-x, Start}
 

@@ -12,7 +12,6 @@ use Rattle.rows.specs.Rows.{quad_at}
 use Rattle.rows.proofs.Cubes.{quad_within}
 use Rattle.tiles.specs.Tiles.{Source, source, row_tiles, row_tiles_at}
 use Rattle.tiles.proofs.Laws.{row_empty, row_reaching}
-use borrow.Author.Rules.{rules}
 use Rattle.tiles.proofs.put_row_at.Goals as goal
 use Rattle.tiles.proofs.put_row_at.Goals.{After-quad_at-q, Start}
 

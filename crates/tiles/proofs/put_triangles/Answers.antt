@@ -7,8 +7,7 @@ use lib.ListN.{length}
 use Rattle.lists.specs.Lists.{range, each}
 use Rattle.lists.proofs.Stores.{sets_front}
 use Rattle.tiles.specs.Tiles.{source, layer_tiles, tiles_by}
-use Rattle.tiles.proofs.Laws.{Laid, laid_none, laid_long, laid_fit, laid_more, laid_all}
-use borrow.Author.Rules.{rules}
+use Rattle.tiles.proofs.Laws.{laid_none, laid_long, laid_fit, laid_more, laid_all}
 use Rattle.tiles.proofs.put_triangles.Goals as goal
 use Rattle.tiles.proofs.put_triangles.Goals.{Start}
 
