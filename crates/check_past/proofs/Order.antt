@@ -5,7 +5,7 @@ use Prim.Native.Nat.{ℕ, ◌≤◌}
 use lib.ListN.{length}
 use Rattle.lists.specs.Lists.{each}
 use Rattle.paper.specs.declared.Rule.{Rule}
-use Rattle.paper.specs.Lattice.{Lattice, cubes}
+use Rattle.paper.specs.Lattice.{Lattice}
 use Rattle.paper.specs.Sheet.{vertex_record}
 use Rattle.paper.specs.Room.{needed_slots}
 use Rattle.paper.specs.Within.{Sized}

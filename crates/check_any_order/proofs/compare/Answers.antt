@@ -12,8 +12,6 @@ use Rattle.check_triangles.specs.Words.{words_by}
 use Rattle.check_triangles.specs.Triples.{first_bad_in as first_bad_triple}
 use Rattle.check_any_order.proofs.Answers.{answer_17, answer_18, answer_19_vertices}
 use Rattle.check_any_order.proofs.Answers.{answer_19_triangles, answer_0, slots_beyond, seen_beyond, all_named}
-use borrow.Author.Rules.{rules}
-use Rattle.check_triangles.proofs.first_bad.Reads as first_bad_reads'
 use Rattle.check_any_order.proofs.compare.Goals as goal
 use Rattle.check_any_order.proofs.compare.Goals.{After-first_bad-i, After-first_bad-j, Else-i-nv, Else-j-nt, Start}
 
@@ -36,7 +34,6 @@ slots_left c =
     c.first_bad-i.ensures.0 c.first_bad-i.ensures.1
 
 module _ (c : goal.Else-i-nv) where
-
   no_record : first_bad_record c.args.rule (L (goal.at.Else-i-nv c).Start) (file_vertices (bs (goal.at.Else-i-nv c).Start)) c.args.slots.now (file_v (bs (goal.at.Else-i-nv c).Start)) ≡ file_v (bs (goal.at.Else-i-nv c).Start)
   no_record = sym c.first_bad-i.ensures.0 ∙ (c.if-i-nv.false ∙ c.vertex_count-nv.ensures.0)
 

@@ -1,5 +1,4 @@
 -- Slots cleared and numbered, the waiting list empty, and then test by test. Assumes nothing.
-use borrow.Author.Rules.{rules}
 use mathlib.Core.Path.{◌≡◌, sym, ap, subst, ◌∙◌}
 use mathlib.Core.List.{List}
 use Prim.Native.Nat.{ℕ, ◌*◌, ◌<◌}
@@ -31,7 +30,6 @@ words_length z rows vis = length_along (λ k. word_by z rows vis (cube_at z k)) 
 
 -- the waiting list and the slots, once these are numbered
 module _ (c : goal.After-number_slots) where
-
   abbrev z : Sizes
   z = c.args.sizes
 

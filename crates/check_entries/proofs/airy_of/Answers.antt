@@ -1,5 +1,5 @@
 -- By the side of the first. Assumes nothing.
-use Rattle.std.proofs.Common.{◌≡◌, Bool, cond, sym, ap, ◌∙◌, to_z-of_z, rules}
+use Rattle.std.proofs.Common.{◌≡◌, Bool, cond, sym, ap, ◌∙◌, to_z-of_z}
 use Rattle.paper.specs.Lattice.{air}
 use Rattle.check_entries.proofs.airy_of.Goals as goal
 use Rattle.check_entries.proofs.airy_of.Goals.{After-is_air}

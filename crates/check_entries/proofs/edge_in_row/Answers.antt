@@ -1,5 +1,5 @@
 -- Below 0, before the first that may be, behind the last, or one of the row's. Assumes nothing.
-use Rattle.std.proofs.Common.{◌≡◌, false, T, ℤ, pos, nat_abs, sym, ap, ◌∙◌, subst, arith, to_z-of_z, w32, w64, Fits, to_z, of_z, rules}
+use Rattle.std.proofs.Common.{◌≡◌, false, T, ℤ, pos, nat_abs, sym, ap, ◌∙◌, subst, arith, to_z-of_z, w32, w64, Fits, to_z, of_z}
 use lib.Signed.{lt_z, non_neg}
 use mir.Facts.{Fits-nat_abs}
 use Rattle.check_entries.proofs.Laws.{not_below_zero, not_negative}

@@ -1,5 +1,5 @@
 -- The edge is one of the row's, the row has it, and the record is its vertex's. Assumes nothing.
-use Rattle.std.proofs.Common.{◌≡◌, ℕ, ◌+◌, ◌*◌, ◌/◌, ◌%◌, ◌<◌, T, List, get_or, ℤ, pos, sym, ap, ◌∙◌, arith, to_z-of_z, w32, rules}
+use Rattle.std.proofs.Common.{◌≡◌, ℕ, ◌+◌, ◌*◌, ◌/◌, ◌%◌, ◌<◌, T, List, get_or, ℤ, pos, sym, ap, ◌∙◌, arith, to_z-of_z, w32}
 use borrow.Author.Tests.{not-false}
 use Rattle.lists.proofs.Member.{eq_to_t}
 use Rattle.paper.specs.Lattice.{Lattice, lattice, place, sample_no}

@@ -1,5 +1,5 @@
 -- One of the two ends is solid, and t is measured from it. Assumes nothing.
-use Rattle.std.proofs.Common.{◌≡◌, ◌-◌, ◌≤◌, cond, ℤ, ap, ◌∙◌, arith, to_z-of_z, w16, to_z, of_z, rules}
+use Rattle.std.proofs.Common.{◌≡◌, ◌-◌, ◌≤◌, cond, ℤ, ap, ◌∙◌, arith, to_z-of_z, w16, to_z, of_z}
 use Rattle.lists.proofs.Member.{eq_to_t}
 use Rattle.paper.specs.Lattice.{air}
 use Rattle.paper.specs.Sheet.{crossing}
@@ -32,12 +32,11 @@ pub returns-then-s-gt65536 : goal.returns-then-s-gt65536
 returns-then-s-gt65536 c e = absurd (eq_to_t e)
 
 pub is_crossing-requires : goal.is_crossing-requires
-is_crossing-requires c =
-    (
-      ap air (p_is (goal.at.is_crossing-requires c).After-from_solid) ∙ solid_end c.args.first c.args.second c.requires,
-      ap air (q_is (goal.at.is_crossing-requires c).After-from_solid) ∙ air_end c.args.first c.args.second c.requires,
-      c.from_solid.ensures.1,
-    )
+is_crossing-requires c = (
+  ap air (p_is (goal.at.is_crossing-requires c).After-from_solid) ∙ solid_end c.args.first c.args.second c.requires,
+  ap air (q_is (goal.at.is_crossing-requires c).After-from_solid) ∙ air_end c.args.first c.args.second c.requires,
+  c.from_solid.ensures.1,
+)
 
 pub returns : goal.returns
 returns c e =

@@ -1,5 +1,5 @@
 -- Axis by axis. Assumes nothing.
-use Rattle.std.proofs.Common.{◌≡◌, ℕ, ◌+◌, ◌*◌, ◌/◌, ◌%◌, List, get_or, ℤ, pos, ◌+ℤ◌, ◌*ℤ◌, ◌∙◌, arith, to_z-of_z, w32, SFits, to_z, of_z, rules}
+use Rattle.std.proofs.Common.{◌≡◌, ℕ, ◌+◌, ◌*◌, ◌/◌, ◌%◌, List, get_or, ℤ, pos, ◌+ℤ◌, ◌*ℤ◌, ◌∙◌, arith, to_z-of_z, w32, SFits, to_z, of_z}
 use borrow.Author.Tests.{not-false}
 use Rattle.lists.proofs.Member.{eq_to_t}
 use Rattle.paper.specs.Lattice.{corner}
@@ -83,9 +83,8 @@ stands-requires c = (c.requires.ranged.0, omega (arith, c.requires.ranged.1), st
 
 pub returns : goal.returns
 unfolding corner
-returns c e =
-    (
-      c.stands-a.ensures (not-false _ c.if-not-a.false-raw) ∙ leads_x (goal.at.returns c).Start (record { sfits = c.stands-arg-1.given }),
-      c.stands-b.ensures (not-false _ c.if-not-b.false-raw) ∙ leads_y (goal.at.returns c).Start (record { sfits = c.stands-arg-2-1.given }),
-      c.stands.ensures e ∙ leads_z (goal.at.returns c).Start (record { sfits = c.stands-arg-3-1.given }),
-    )
+returns c e = (
+  c.stands-a.ensures (not-false _ c.if-not-a.false-raw) ∙ leads_x (goal.at.returns c).Start (record { sfits = c.stands-arg-1.given }),
+  c.stands-b.ensures (not-false _ c.if-not-b.false-raw) ∙ leads_y (goal.at.returns c).Start (record { sfits = c.stands-arg-2-1.given }),
+  c.stands.ensures e ∙ leads_z (goal.at.returns c).Start (record { sfits = c.stands-arg-3-1.given }),
+)

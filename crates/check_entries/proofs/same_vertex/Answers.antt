@@ -1,10 +1,10 @@
 -- The values at both ends, t from the first, and the positions. Assumes nothing.
-use Rattle.std.proofs.Common.{◌≡◌, ℕ, ◌+◌, ◌*◌, ◌<◌, ◌≤◌, length, get_or, pos, sym, ap, ◌∙◌, arith, to_z-of_z, w16, SFits, to_z, of_z, rules}
+use Rattle.std.proofs.Common.{◌≡◌, ℕ, ◌+◌, ◌*◌, ◌<◌, ◌≤◌, length, get_or, pos, sym, ap, ◌∙◌, arith, to_z-of_z, w16, SFits, to_z, of_z}
 use borrow.Author.Tests.{not-false}
 use mathlib.Core.Bool.{xor}
 use Rattle.lists.proofs.Member.{eq_to_t}
 use Rattle.paper.specs.declared.Place.{Place}
-use Rattle.paper.specs.Lattice.{Lattice, lattice, air, value_at, air_at, place, corner, sample_no, samples}
+use Rattle.paper.specs.Lattice.{Lattice, lattice, air, value_at, air_at, place, corner, sample_no}
 use Rattle.paper.specs.Sheet.{ends_of, split, vertex_record}
 use Rattle.paper.specs.File.{file_vertices}
 use Rattle.paper.proofs.Numbers.{sample_lt}

@@ -1,5 +1,5 @@
 -- Two numbers are the same where their bits are. Assumes nothing.
-use Rattle.std.proofs.Common.{ℤ, pos, ◌+ℤ◌, ◌*ℤ◌, sym, ap, ◌∙◌, eqb→eq, to_z-of_z, w32, to_z, of_z, rules}
+use Rattle.std.proofs.Common.{ℤ, pos, ◌+ℤ◌, ◌*ℤ◌, sym, ap, ◌∙◌, eqb→eq, to_z-of_z, w32, to_z, of_z}
 use Rattle.lists.proofs.Member.{eq_to_t}
 use Rattle.check_entries.proofs.stands.Goals as goal
 

@@ -1,5 +1,5 @@
 -- Each step as an i32. Assumes nothing.
-use Rattle.std.proofs.Common.{◌≡◌, pos, arith, to_z-of_z, w32, to_z, rules}
+use Rattle.std.proofs.Common.{◌≡◌, pos, arith, to_z-of_z, w32, to_z}
 use mir.Facts.{to_z_pos}
 use Rattle.check_entries.proofs.towards.Goals as goal
 use Rattle.check_entries.proofs.towards.Goals.{Start}

@@ -1,15 +1,14 @@
 -- After y rows the file has their vertices. Assumes nothing.
 use mathlib.Core.Path.{◌∙◌}
 use mathlib.Core.List.{List}
-use Prim.Native.Nat.{ℕ, ◌-◌}
+use Prim.Native.Nat.{ℕ}
 use native.Mathlib.Omega.{arith}
 use lib.IntN.{ℤ}
 use Rattle.paper.specs.Lattice.{Lattice, lattice}
 use Rattle.paper.specs.File.{file_vertices}
 use Rattle.dots.specs.Dots.{edges_of, layer_edges}
 use Rattle.dots.proofs.Laws.{crossed_part}
-use Rattle.check_ordered_records.proofs.Dots.{Going, going_none, going_long, going_more, going_differs, going_all}
-use borrow.Author.Rules.{rules}
+use Rattle.check_ordered_records.proofs.Dots.{going_none, going_long, going_more, going_differs, going_all}
 use Rattle.check_ordered_records.proofs.same_layer_vertices.Goals as goal
 use Rattle.check_ordered_records.proofs.same_layer_vertices.Goals.{Start}
 

@@ -1,7 +1,6 @@
 -- The loop's invariant: the records so far are those of rising edges of the row. Assumes nothing.
-use borrow.Author.Rules.{rules}
 use mathlib.Core.Path.{refl}
-use Prim.Native.Nat.{◌+◌, ◌-◌, ◌*◌, ◌<◌}
+use Prim.Native.Nat.{◌+◌, ◌*◌, ◌<◌}
 use native.Mathlib.Omega.{arith}
 use Rattle.lists.proofs.Member.{eq_to_t}
 use Rattle.paper.specs.Lattice.{lattice}
@@ -9,7 +8,7 @@ use Rattle.paper.specs.Room.{needed_slots}
 use Rattle.paper.specs.File.{file_vertices}
 use Rattle.layout.proofs.Trailer.{vertices_length}
 use Rattle.lattice.proofs.Laws.{samples_few}
-use Rattle.check_ordered_records.proofs.Entered.{Entering, entering_none, entering_more, entering_all, in_row, edge_in_row}
+use Rattle.check_ordered_records.proofs.Entered.{entering_none, entering_more, entering_all, in_row, edge_in_row}
 use Rattle.check_ordered_records.proofs.same_records.Goals as goal
 use Rattle.check_ordered_records.proofs.same_records.Goals.{Else-e-wide, Start}
 

@@ -1,5 +1,4 @@
 -- By whether there are cubes around the row, and whether the file has its vertices. Assumes nothing.
-use borrow.Author.Rules.{rules}
 use borrow.Author.Tests.{not-false}
 use mathlib.Core.Path.{◌≡◌, sym, subst, ◌∙◌}
 use mathlib.Core.List.{List}
@@ -59,10 +58,10 @@ same_row-same-requires c =
       full = c.requires.full;
       crossed = subst (Crossed (volume (goal.at.same_row-same-requires c).Start)) (sym (row_is (goal.at.same_row-same-requires c).After-kinds-k)) c.requires.crossed;
       ranged = (
-          c.requires.ranged.0,
-          omega (arith, c.requires.ranged.1, c.if-nv-at.false),
-          omega (arith, n.ensures.0, kept_few c.kinds-k.result (7 * a.sizes.nx) (omega (arith, c.requires.full.0.sized.x_high))),
-        );
+        c.requires.ranged.0,
+        omega (arith, c.requires.ranged.1, c.if-nv-at.false),
+        omega (arith, n.ensures.0, kept_few c.kinds-k.result (7 * a.sizes.nx) (omega (arith, c.requires.full.0.sized.x_high))),
+      );
     }
 
 pub overflow_add-result-then-not-same : goal.overflow_add-result-then-not-same

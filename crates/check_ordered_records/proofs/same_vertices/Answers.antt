@@ -3,7 +3,6 @@ use native.Mathlib.Omega.{arith}
 use borrow.Author.Tests.{eqb-true}
 use Rattle.layout.proofs.Trailer.{vertices_length}
 use Rattle.check_ordered_records.proofs.Dots.{listing_all}
-use borrow.Author.Rules.{rules}
 use Rattle.check_ordered_records.proofs.same_vertices.Goals as goal
 
 pub same_layers_vertices-next-requires : goal.same_layers_vertices-next-requires

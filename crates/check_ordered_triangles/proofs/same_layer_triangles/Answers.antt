@@ -1,12 +1,8 @@
 -- After y rows the file has their triangles. Assumes nothing.
-use mathlib.Core.Path.{◌≡◌, refl, ◌∙◌}
-use Prim.Native.Nat.{◌-◌}
+use mathlib.Core.Path.{refl, ◌∙◌}
 use native.Mathlib.Omega.{arith}
-use lib.ListN.{length}
-use Rattle.paper.specs.File.{file_triangles}
-use Rattle.tiles.specs.Tiles.{source, row_tiles_at, layer_tiles}
-use Rattle.check_ordered.proofs.Laws.{Found, found_none, found_more, found_all}
-use borrow.Author.Rules.{rules}
+use Rattle.tiles.specs.Tiles.{layer_tiles}
+use Rattle.check_ordered.proofs.Laws.{found_none, found_more, found_all}
 use Rattle.check_ordered_triangles.proofs.same_layer_triangles.Goals as goal
 
 pub loop-y-init : goal.loop-y-init

@@ -1,12 +1,10 @@
 -- After y rows the file has their triangles. Assumes nothing.
-use mathlib.Core.Path.{◌≡◌, refl, ◌∙◌}
+use mathlib.Core.Path.{◌≡◌}
 use Prim.Native.Nat.{◌-◌}
-use native.Mathlib.Omega.{arith}
 use lib.ListN.{length}
 use Rattle.paper.specs.File.{file_triangles}
-use Rattle.tiles.specs.Tiles.{source, row_tiles_at, layer_tiles}
-use Rattle.check_ordered.proofs.Laws.{Found, found_none, found_more, found_all}
-use borrow.Author.Rules.{rules}
+use Rattle.tiles.specs.Tiles.{source, row_tiles_at}
+use Rattle.check_ordered.proofs.Laws.{Found}
 use Rattle.check_ordered_triangles.proofs.same_layer_triangles.Given as goal
 
 abbrev pub invariant-loop-y : goal.invariant-loop-y

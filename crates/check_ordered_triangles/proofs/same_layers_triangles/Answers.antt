@@ -1,15 +1,13 @@
 -- After z layers the file has their triangles; in the end it has no others. Assumes nothing.
-use mathlib.Core.Path.{◌≡◌, refl, sym, ap, subst, ◌∙◌}
-use Prim.Native.Nat.{ℕ, ◌-◌, ◌*◌}
+use mathlib.Core.Path.{refl, sym, ap, subst, ◌∙◌}
+use Prim.Native.Nat.{ℕ, ◌*◌}
 use native.Mathlib.Omega.{arith}
 use lib.Dec.{T}
-use lib.ListN.{length}
 use borrow.Author.Tests.{eqb-true}
 use Rattle.paper.specs.File.{file_triangles}
 use Rattle.layout.proofs.Trailer.{triangles_length}
-use Rattle.tiles.specs.Tiles.{source, layer_tiles, tiles_by}
-use Rattle.check_ordered.proofs.Laws.{Found, found_none, found_more, found_all, follows_all}
-use borrow.Author.Rules.{rules}
+use Rattle.tiles.specs.Tiles.{tiles_by}
+use Rattle.check_ordered.proofs.Laws.{found_none, found_more, found_all, follows_all}
 use Rattle.check_ordered_triangles.proofs.same_layers_triangles.Goals as goal
 
 pub vertex_count-nv-requires : goal.vertex_count-nv-requires

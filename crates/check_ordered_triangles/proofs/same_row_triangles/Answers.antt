@@ -11,7 +11,6 @@ use Rattle.paper.specs.File.{file_triangles}
 use Rattle.tiles.specs.Tiles.{Source, source, row_tiles_at}
 use Rattle.check_ordered.proofs.Laws.{follows_front}
 use Rattle.check_ordered_triangles.proofs.Tiles.{row_few}
-use borrow.Author.Rules.{rules}
 use Rattle.check_ordered_triangles.proofs.same_row_triangles.Goals as goal
 use Rattle.check_ordered_triangles.proofs.same_row_triangles.Goals.{After-put_row_at-n, Start}
 
@@ -31,10 +30,10 @@ count c = c.put_row_at-n.ensures.1 ∙ zero-add _
 
 pub put_row_at-n-requires : goal.put_row_at-n-requires
 put_row_at-n-requires c = record {
-      sized = c.requires.sized;
-      fact = c.requires.fact;
-      z_in_bounds = omega (arith, few (goal.at.put_row_at-n-requires c).Start, c.requires.at_le_end.1);
-    }
+  sized = c.requires.sized;
+  fact = c.requires.fact;
+  z_in_bounds = omega (arith, few (goal.at.put_row_at-n-requires c).Start, c.requires.at_le_end.1);
+}
 
 pub overflow_add-at : goal.overflow_add-at
 overflow_add-at c =

@@ -1,11 +1,8 @@
 -- After i numbers, `same` says that they are the first i of the words. Assumes nothing.
 use mathlib.Core.Path.{sym, ◌∙◌}
-use Prim.Native.Nat.{◌-◌}
 use native.Mathlib.Omega.{arith}
-use Rattle.paper.specs.File.{file_triangles}
 use Rattle.layout.proofs.Trailer.{triangles_length}
-use Rattle.check_ordered.proofs.Laws.{Alike, alike_none, alike_more, alike_all}
-use borrow.Author.Rules.{rules}
+use Rattle.check_ordered.proofs.Laws.{alike_none, alike_more, alike_all}
 use Rattle.check_ordered_triangles.proofs.same_triangle_words.Goals as goal
 
 pub loop-i-init : goal.loop-i-init

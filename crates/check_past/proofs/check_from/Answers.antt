@@ -1,5 +1,4 @@
 -- The visited cubes, the last tests, and a clear. Assumes nothing.
-use borrow.Author.Rules.{rules}
 use mathlib.Core.Path.{◌∙◌}
 use native.Mathlib.Omega.{arith}
 use Rattle.lists.specs.Lists.{cleared}

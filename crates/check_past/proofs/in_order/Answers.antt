@@ -1,5 +1,4 @@
 -- First the vertices, then the triangles by the slots that these numbered. Assumes nothing.
-use borrow.Author.Rules.{rules}
 use borrow.Author.Tests.{not-false}
 use native.Mathlib.Omega.{arith}
 use Rattle.lists.proofs.Member.{eq_to_t}

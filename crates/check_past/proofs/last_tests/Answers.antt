@@ -1,14 +1,13 @@
 -- In the sheet's own order, or in any. Assumes nothing.
-use borrow.Author.Rules.{rules}
 use native.Mathlib.Omega.{arith}
 use Rattle.lists.proofs.Stores.{beyond_refl, beyond_trans}
 use Rattle.check_past.proofs.last_tests.Goals as goal
 
 pub in_order-same-requires : goal.in_order-same-requires
 in_order-same-requires c = record {
-      fact = c.requires.fact;
-      nz_in_bounds = (c.requires.nz_in_bounds.0, c.requires.nz_in_bounds.2);
-    }
+  fact = c.requires.fact;
+  nz_in_bounds = (c.requires.nz_in_bounds.0, c.requires.nz_in_bounds.2);
+}
 
 pub returns-then-same : goal.returns-then-same
 returns-then-same c =
@@ -17,9 +16,9 @@ returns-then-same c =
 
 pub in_any_order-requires : goal.in_any_order-requires
 in_any_order-requires c = record {
-      fact = c.requires.fact;
-      nz_in_bounds = (c.requires.nz_in_bounds.0, c.requires.nz_in_bounds.1, omega (arith, c.requires.nz_in_bounds.2, c.in_order-same.ensures.1.same_length));
-    }
+  fact = c.requires.fact;
+  nz_in_bounds = (c.requires.nz_in_bounds.0, c.requires.nz_in_bounds.1, omega (arith, c.requires.nz_in_bounds.2, c.in_order-same.ensures.1.same_length));
+}
 
 pub returns : goal.returns
 returns c =

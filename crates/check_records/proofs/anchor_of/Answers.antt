@@ -19,8 +19,7 @@ place_of-requires c =
 
 pub returns : goal.returns
 unfolding sample_at
-returns c =
-    (
-      c.place_of.ensures,
-      subst (SampleIn c.args.sizes) (sym c.place_of.ensures) (sample_inside _ c.requires.0 (c.args.e / 7) (anchor_lt (goal.at.returns c).Start)),
-    )
+returns c = (
+  c.place_of.ensures,
+  subst (SampleIn c.args.sizes) (sym c.place_of.ensures) (sample_inside _ c.requires.0 (c.args.e / 7) (anchor_lt (goal.at.returns c).Start)),
+)

@@ -1,18 +1,10 @@
 -- Each record before i is good, and the slots of their edges are 0. Assumes nothing.
-use mathlib.Core.Path.{◌≡◌, sym, ap, subst, ◌∙◌}
-use mathlib.Core.Bool.{false, not}
-use mathlib.Core.List.{List}
-use Prim.Native.Nat.{ℕ, ◌-◌, ◌*◌, ◌≤◌, ◌<◌}
-use native.Mathlib.Omega.{arith}
-use lib.IntN.{ℤ}
-use lib.ListN.{length, set}
-use borrow.Author.Count.{below_more}
-use Rattle.lists.proofs.Firsts.{first_found, first_missing}
-use Rattle.paper.specs.Lattice.{Lattice, lattice}
-use Rattle.paper.specs.Room.{needed_slots}
-use Rattle.paper.specs.File.{file_v, file_vertices}
-use Rattle.check_records.specs.Records.{AllCross, good_edge, slots_after, bad_in, first_bad_in}
-use Rattle.check_records.proofs.Laws.{Found, record_bad, record_good, after_none, after_more, after_length, after_crossing}
+use mathlib.Core.Path.{◌≡◌}
+use mathlib.Core.Bool.{false}
+use Prim.Native.Nat.{ℕ, ◌-◌, ◌≤◌, ◌<◌}
+use Rattle.paper.specs.Lattice.{lattice}
+use Rattle.paper.specs.File.{file_vertices}
+use Rattle.check_records.specs.Records.{slots_after, bad_in}
 use Rattle.check_records.proofs.first_bad.Given as goal
 
 abbrev pub invariant-loop-i : goal.invariant-loop-i

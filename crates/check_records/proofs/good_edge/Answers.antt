@@ -22,7 +22,6 @@ use Rattle.crossing.specs.Vertex.{Crosses}
 use Rattle.dots.specs.Slots.{used}
 use Rattle.check_records.specs.Records.{edge_in, edge_at}
 use Rattle.check_records.proofs.Laws.{edge_out, edge_idle, edge_wrong, edge_right}
-use borrow.Author.Rules.{rules}
 use Rattle.check_records.proofs.good_edge.Goals as goal
 use Rattle.check_records.proofs.good_edge.Goals.{After-anchor_of-p, After-edge_in-e, After-same_record-good, Else-e-n, Else-slots-e-eq0, Start}
 

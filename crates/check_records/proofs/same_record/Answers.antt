@@ -15,7 +15,6 @@ use Rattle.paper.specs.Check.{same_number, same_numbers, record_of}
 use Rattle.crossing.specs.Vertex.{numbers}
 use Rattle.layout.proofs.Trailer.{vertices_length}
 use Rattle.check_records.proofs.Numbers.{four}
-use borrow.Author.Rules.{rules}
 use Rattle.check_records.proofs.same_record.Goals as goal
 use Rattle.check_records.proofs.same_record.Goals.{After-same_word-e, After-same_word-x, After-same_word-y, Start}
 

@@ -3,7 +3,6 @@ use mathlib.Core.Path.{ap, ◌∙◌}
 use lib.IntN.{ℤ}
 use Rattle.paper.specs.Check.{same_number}
 use Rattle.check_records.proofs.Numbers.{same_bits}
-use borrow.Author.Rules.{rules}
 use Rattle.check_records.proofs.same_word.Goals as goal
 
 pub returns : goal.returns

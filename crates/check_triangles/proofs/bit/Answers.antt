@@ -1,7 +1,6 @@
 -- A shift down is a division by a power of two. Assumes nothing.
 use mathlib.Core.Path.{refl}
 use Rattle.sides.specs.Pattern.{bit_of}
-use borrow.Author.Rules.{rules}
 use Rattle.check_triangles.proofs.bit.Goals as goal
 
 pub returns : goal.returns

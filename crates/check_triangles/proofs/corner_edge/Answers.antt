@@ -9,7 +9,6 @@ use Rattle.paper.specs.File.{file_v, file_vertices}
 use Rattle.paper.specs.Check.{edge_of, corner_of}
 use Rattle.check_records.specs.Records.{edge_in}
 use Rattle.check_triangles.proofs.Laws.{named_is}
-use borrow.Author.Rules.{rules}
 use Rattle.check_triangles.proofs.corner_edge.Goals as goal
 use Rattle.check_triangles.proofs.corner_edge.Goals.{After-edge_in, After-triangle_word-v}
 

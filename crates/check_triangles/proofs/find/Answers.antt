@@ -4,7 +4,6 @@ use mathlib.Core.Bool.{cond}
 use Prim.Native.Nat.{ℕ, ◌+◌, ◌%◌}
 use native.Mathlib.Omega.{arith}
 use lib.Dec.{eqb}
-use borrow.Author.Rules.{rules}
 use Rattle.tetra.specs.Cut.{tri_of}
 use Rattle.check_triangles.specs.Words.{words_by}
 use Rattle.check_triangles.specs.Triples.{place_from}

@@ -1,8 +1,8 @@
 -- Each triangle before i is fresh in its turn, and the bits are those after i. Assumes nothing.
 use mathlib.Core.Path.{◌≡◌, sym, ap, subst, ◌∙◌}
-use mathlib.Core.Bool.{false, not}
+use mathlib.Core.Bool.{not}
 use mathlib.Core.List.{List}
-use Prim.Native.Nat.{ℕ, ◌-◌, ◌*◌, ◌≤◌, ◌<◌}
+use Prim.Native.Nat.{ℕ, ◌*◌}
 use native.Mathlib.Omega.{arith}
 use lib.IntN.{ℤ}
 use lib.ListN.{length}
@@ -16,12 +16,10 @@ use Rattle.paper.specs.Within.{Below}
 use Rattle.paper.specs.File.{file_t, file_vertices, file_triangles}
 use Rattle.paper.specs.Check.{triangle_of}
 use Rattle.tetra.specs.Cut.{tri_of}
-use Rattle.check_triangles.specs.declared.Spot.{Spot}
 use Rattle.check_triangles.specs.Words.{words_by}
-use Rattle.check_triangles.specs.Triples.{Named, Based, fresh, noted, Small, seen_after, bad_in, first_bad_in}
+use Rattle.check_triangles.specs.Triples.{Named, fresh, noted, Small, seen_after, bad_in, first_bad_in}
 use Rattle.check_triangles.proofs.Laws.{is_fresh, noted_small, based_first, found_fresh}
 use Rattle.check_triangles.proofs.Laws.{found_noted, after_none, after_more, after_length}
-use Rattle.check_triangles.proofs.first_bad.Invariants.{Going}
 use Rattle.check_triangles.proofs.first_bad.Goals as goal
 use Rattle.check_triangles.proofs.first_bad.Goals.{After-note-good, At-loop-i, Start}
 
@@ -48,9 +46,6 @@ all c = ap (λ (n : ℕ). 7 * n) c.sample_count-n.ensures.0
 
 -- whether the triangle is fresh: by the bits as they are, and by those after i triangles
 module _ (c : goal.After-note-good) where
-
-
-
   fresh_now : c.note-good.result ≡ fresh (z (goal.at.After-note-good c).Start) (words (goal.at.After-note-good c).Start) c.loop-i.seen (tri_of c.triangle_at-t.result)
   fresh_now =
       c.note-good.ensures.0

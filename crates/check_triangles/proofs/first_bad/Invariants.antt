@@ -1,26 +1,15 @@
 -- Each triangle before i is fresh in its turn, and the bits are those after i. Assumes nothing.
-use mathlib.Core.Path.{◌≡◌, sym, ap, subst, ◌∙◌}
-use mathlib.Core.Bool.{false, not}
+use mathlib.Core.Path.{◌≡◌}
+use mathlib.Core.Bool.{false}
 use mathlib.Core.List.{List}
-use Prim.Native.Nat.{ℕ, ◌-◌, ◌*◌, ◌≤◌, ◌<◌}
-use native.Mathlib.Omega.{arith}
+use Prim.Native.Nat.{ℕ, ◌-◌, ◌≤◌, ◌<◌}
 use lib.IntN.{ℤ}
-use lib.ListN.{length}
-use borrow.Author.Count.{below_more}
-use borrow.Author.Tests.{not-true, not-false}
-use Rattle.lists.proofs.Firsts.{first_found, first_missing}
 use Rattle.paper.specs.declared.Sizes.{Sizes}
 use Rattle.paper.specs.Lattice.{cubes}
-use Rattle.paper.specs.Room.{needed_slots}
-use Rattle.paper.specs.Within.{Below}
-use Rattle.paper.specs.File.{file_t, file_vertices, file_triangles}
-use Rattle.paper.specs.Check.{triangle_of}
-use Rattle.tetra.specs.Cut.{tri_of}
+use Rattle.paper.specs.File.{file_vertices, file_triangles}
 use Rattle.check_triangles.specs.declared.Spot.{Spot}
 use Rattle.check_triangles.specs.Words.{words_by}
-use Rattle.check_triangles.specs.Triples.{Named, Based, fresh, noted, Small, seen_after, bad_in, first_bad_in}
-use Rattle.check_triangles.proofs.Laws.{is_fresh, noted_small, based_first, found_fresh}
-use Rattle.check_triangles.proofs.Laws.{found_noted, after_none, after_more, after_length}
+use Rattle.check_triangles.specs.Triples.{Based, Small, seen_after, bad_in}
 use Rattle.check_triangles.proofs.first_bad.Given as goal
 
 -- i triangles are looked at: each was fresh in its turn, their bits are 1, and last is the spot of the one before
@@ -38,4 +27,3 @@ invariant-loop-i l =
 
 abbrev pub decreases-loop-i : goal.decreases-loop-i
 decreases-loop-i l = l.nt - l.i
-

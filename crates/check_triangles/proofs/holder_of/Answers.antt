@@ -6,7 +6,6 @@ use Rattle.paper.specs.Lattice.{cube_no}
 use Rattle.paper.specs.Sheet.{anchor_of}
 use Rattle.paper.specs.Within.{cube_of}
 use Rattle.lattice.proofs.Laws.{Parts, parts}
-use borrow.Author.Rules.{rules}
 use Rattle.check_triangles.proofs.holder_of.Goals as goal
 use Rattle.check_triangles.proofs.holder_of.Goals.{After-least-z}
 

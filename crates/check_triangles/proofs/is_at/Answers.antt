@@ -1,5 +1,5 @@
 -- A triangle past the row's last is none; else the two are compared. Assumes nothing.
-use mathlib.Core.Path.{◌≡◌, sym, ap, subst, ◌∙◌}
+use mathlib.Core.Path.{◌≡◌, ap, subst, ◌∙◌}
 use Prim.Native.Nat.{ℕ, ◌/◌, ◌%◌, ◌≤◌, ◌<◌}
 use lib.ListN.{get_or}
 use borrow.Author.Tests.{lt-ltb, le-ltb}
@@ -7,7 +7,6 @@ use Rattle.paper.specs.Tables.{tri}
 use Rattle.paper.specs.Check.{turned}
 use Rattle.tetra.specs.Cut.{row_by, row_count, row_triangles, tri_of}
 use Rattle.check_triangles.specs.Triples.{is_at}
-use borrow.Author.Rules.{rules}
 use Rattle.check_triangles.proofs.is_at.Goals as goal
 use Rattle.check_triangles.proofs.is_at.Goals.{After-row_count}
 

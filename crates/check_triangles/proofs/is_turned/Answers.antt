@@ -3,7 +3,6 @@ use mathlib.Core.Path.{◌≡◌, sym, ap, ◌∙◌}
 use Rattle.paper.specs.Tables.{Tri, tri}
 use Rattle.paper.specs.Check.{same_triangle, turned}
 use Rattle.tetra.specs.Cut.{tri_of}
-use borrow.Author.Rules.{rules}
 use Rattle.check_triangles.proofs.is_turned.Goals as goal
 use Rattle.check_triangles.proofs.is_turned.Goals.{After-turn-t1}
 

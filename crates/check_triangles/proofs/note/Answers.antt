@@ -2,7 +2,6 @@
 use mathlib.Core.Path.{refl, sym, ◌∙◌}
 use Prim.Native.Nat.{◌+◌}
 use lib.ListN.{get_or, set}
-use borrow.Author.Rules.{rules}
 use borrow.Author.Tests.{le-ltb, lt-ltb, eq-eqb, ne_eqb}
 use Rattle.check_triangles.specs.Triples.{fresh_at, noted_at}
 use Rattle.check_triangles.proofs.note.Goals as goal

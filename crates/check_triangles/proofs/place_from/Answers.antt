@@ -1,11 +1,7 @@
 -- The search from c on finds what the search from the start finds. Assumes nothing.
-use mathlib.Core.Path.{◌≡◌, refl, sym, ◌∙◌}
-use Prim.Native.Nat.{◌-◌, ◌≤◌}
+use mathlib.Core.Path.{refl, sym, ◌∙◌}
 use native.Mathlib.Omega.{arith}
-use Rattle.tetra.specs.Cut.{tri_of}
-use Rattle.check_triangles.specs.Triples.{place_from}
 use Rattle.check_triangles.proofs.Laws.{from_here, from_next, from_end}
-use borrow.Author.Rules.{rules}
 use Rattle.check_triangles.proofs.place_from.Goals as goal
 
 pub loop-c-init : goal.loop-c-init

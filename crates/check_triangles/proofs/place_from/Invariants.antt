@@ -1,11 +1,8 @@
 -- The search from c on finds what the search from the start finds. Assumes nothing.
-use mathlib.Core.Path.{◌≡◌, refl, sym, ◌∙◌}
+use mathlib.Core.Path.{◌≡◌}
 use Prim.Native.Nat.{◌-◌, ◌≤◌}
-use native.Mathlib.Omega.{arith}
 use Rattle.tetra.specs.Cut.{tri_of}
 use Rattle.check_triangles.specs.Triples.{place_from}
-use Rattle.check_triangles.proofs.Laws.{from_here, from_next, from_end}
-use borrow.Author.Rules.{rules}
 use Rattle.check_triangles.proofs.place_from.Given as goal
 
 abbrev pub invariant-loop-c : goal.invariant-loop-c

@@ -1,6 +1,5 @@
 -- No word, or a search in the cube. Assumes nothing.
 use native.Mathlib.Omega.{arith}
-use borrow.Author.Rules.{rules}
 use borrow.Author.Tests.{eq-eqb, ne_eqb}
 use Rattle.check_triangles.proofs.place_in.Goals as goal
 

@@ -1,7 +1,6 @@
 -- A shift up is a product with a power of two. Assumes nothing.
 use native.Mathlib.Omega.{arith}
 use Rattle.check_triangles.proofs.Laws.{power_fits}
-use borrow.Author.Rules.{rules}
 use Rattle.check_triangles.proofs.power.Goals as goal
 
 pub returns : goal.returns

@@ -1,5 +1,4 @@
 -- The three corners. Assumes nothing.
-use borrow.Author.Rules.{rules}
 use Rattle.paper.specs.Check.{triangle_of}
 use Rattle.paper.specs.Tables.{tri}
 use Rattle.check_triangles.proofs.triangle_at.Goals as goal

@@ -6,7 +6,6 @@ use Rattle.rows.specs.declared.Quad.{Quad}
 use Rattle.rows.specs.Rows.{pattern_in}
 use Rattle.rows.proofs.Cubes.{quad_within}
 use Rattle.lattice.proofs.Laws.{layer_few}
-use borrow.Author.Rules.{rules}
 use Rattle.check_triangles.specs.Words.{word_by}
 use Rattle.check_triangles.proofs.word_at.Goals as goal
 use Rattle.check_triangles.proofs.word_at.Goals.{Start}

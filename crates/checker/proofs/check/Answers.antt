@@ -16,7 +16,6 @@ use Rattle.layout.proofs.Passing.{laid_out}
 use Rattle.ready.specs.Ready.{Begins}
 use Rattle.check_any_order.specs.Checked.{last_tests}
 use Rattle.checker.proofs.Whole.{last_clears, kept, emptied, checked_samples, checked_file, checked_sizes, checked_last}
-use borrow.Author.Rules.{rules}
 use Rattle.checker.proofs.check.Goals as goal
 use Rattle.checker.proofs.check.Goals.{After-same_sizes-same, Else-file-ne0, Else-ready-ne0, Start}
 

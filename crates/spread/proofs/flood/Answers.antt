@@ -1,8 +1,7 @@
 -- Each turn takes a row off the list, fills it and spreads: the invariant is `Flooding`. What is not visited, five times, and what waits
 -- falls. Assumes nothing.
-use borrow.Author.Rules.{rules}
 use mathlib.Core.Path.{◌≡◌}
-use Prim.Native.Nat.{ℕ, suc, ◌+◌, ◌*◌, ◌<◌, ◌-◌, ◌^◌}
+use Prim.Native.Nat.{ℕ, suc, ◌<◌, ◌-◌, ◌^◌}
 use native.Mathlib.Omega.{arith}
 use lib.ListN.{get_or, set, length-set}
 use Rattle.lists.proofs.Stores.{beyond_trans}
@@ -10,9 +9,8 @@ use Rattle.lists.specs.Lists.{Beyond}
 use Rattle.ways.specs.Flow.{flow, Roomy}
 use Rattle.ways.specs.Ways.{words, rows_of, is_row, RowIn, plan_of}
 use Rattle.spread.specs.Flooded.{Empty, cell, room, Flooded}
-use Rattle.ways.proofs.Laws.{lit}
 use Rattle.ways.proofs.Ways.{row_lt, row_quad, row_le, rows_some, words_le}
-use Rattle.spread.proofs.Turns.{Flooding, first_kept, flooding_start, at_row, at_roomy}
+use Rattle.spread.proofs.Turns.{first_kept, flooding_start, at_row, at_roomy}
 use Rattle.spread.proofs.Turns.{seen_le, less_left, flooding_more, flooding_done, due_done}
 use Rattle.spread.proofs.flood.Goals as goal
 use Rattle.spread.proofs.flood.Goals.{After-filled-full, After-loop-h, In-loop-h}
@@ -151,9 +149,9 @@ overflow_add-seen c =
 
 pub pass_doors-h-requires : goal.pass_doors-h-requires
 pass_doors-h-requires c = record {
-      sized = (c.requires.sized.0, popped (goal.at.pass_doors-h-requires c).In-loop-h, simp length-set c.loop-h.invariant.going.vis_fit, c.requires.sized.4);
-      roomy = roomy (goal.at.pass_doors-h-requires c).After-filled-full;
-    }
+  sized = (c.requires.sized.0, popped (goal.at.pass_doors-h-requires c).In-loop-h, simp length-set c.loop-h.invariant.going.vis_fit, c.requires.sized.4);
+  roomy = roomy (goal.at.pass_doors-h-requires c).After-filled-full;
+}
 
 pub loop-h-smaller : goal.loop-h-smaller
 loop-h-smaller c =

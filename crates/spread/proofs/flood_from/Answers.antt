@@ -9,7 +9,6 @@ use Rattle.ways.specs.Ways.{plan_of}
 use Rattle.spread.proofs.Finish.{empty_closed}
 use Rattle.spread.proofs.Visiting.{visits}
 use Rattle.spread.proofs.Joining.{row_of_law, row_small, fresh, joined}
-use borrow.Author.Rules.{rules}
 use Rattle.spread.proofs.flood_from.Goals as goal
 
 pub overflow_mul-z : goal.overflow_mul-z

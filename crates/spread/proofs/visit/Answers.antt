@@ -9,7 +9,6 @@ use Rattle.paper.specs.Lattice.{Lattice, lattice, cube_no, cube_at, visitable, v
 use Rattle.paper.proofs.Numbers.{cube_back}
 use Rattle.rows.specs.Rows.{HasCubes}
 use Rattle.ways.proofs.Ways.{rows_few, beyond_more}
-use borrow.Author.Rules.{rules}
 use Rattle.spread.proofs.visit.Goals as goal
 
 -- the same cubes, where the is the same
