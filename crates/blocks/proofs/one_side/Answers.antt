@@ -37,23 +37,19 @@ module _ (c : goal.At-loop-c) where
       → One c
   all_alike h =
       let a = c.args in
-      let m = c in
-      rows_alike a.sizes a.rows.now (place a.x a.y a.z) a.size m.least.result (y_end_of c) (z_end_of c)
-      (bits_of c) (like_of c) c.has_bit.result m.least.ensures c.least-y_end.ensures
-      c.least-z_end.ensures m.mask-m.ensures c.all_or_none-like.ensures h
+      rows_alike a.sizes a.rows.now (place a.x a.y a.z) a.size c.least.result (y_end_of c) (z_end_of c)
+      (bits_of c) (like_of c) c.has_bit.result c.least.ensures c.least-y_end.ensures
+      c.least-z_end.ensures c.mask-m.ensures c.all_or_none-like.ensures h
 
   one_differs : (v u : ℕ) → c.args.y ≤ v → v < y_end_of c → c.args.z ≤ u → u < z_end_of c
       → (part_in c v u ≡ like_of c → ⊥) → One c → ⊥
   unfolding side_by
   one_differs v u hv kv hu ku q =
-      let s = c in
-      let a = s.args in
-      let l = c in
-      let m = l in
-      rows_differ a.sizes a.rows.now (place a.x a.y a.z) a.size m.least.result (y_end_of c) (z_end_of c)
-      (bits_of c) (like_of c) l.has_bit.result m.least.ensures l.least-y_end.ensures
-      l.least-z_end.ensures m.mask-m.ensures l.all_or_none-like.ensures s.requires.2
-      (l.has_bit.ensures ∙ ap (λ (w : ℕ). bit w a.x) l.row_of.ensures) v u hv kv hu ku q
+      let a = c.args in
+      rows_differ a.sizes a.rows.now (place a.x a.y a.z) a.size c.least.result (y_end_of c) (z_end_of c)
+      (bits_of c) (like_of c) c.has_bit.result c.least.ensures c.least-y_end.ensures
+      c.least-z_end.ensures c.mask-m.ensures c.all_or_none-like.ensures c.requires.2
+      (c.has_bit.ensures ∙ ap (λ (w : ℕ). bit w a.x) c.row_of.ensures) v u hv kv hu ku q
 
 pub overflow_add-size : goal.overflow_add-size
 overflow_add-size c = omega (arith, c.requires.3.x)
@@ -101,11 +97,9 @@ pub part_of-requires : goal.part_of-requires
 part_of-requires c = omega (arith, c.requires.2.x, c.requires.0.x_high)
 
 -- the part that was looked at
-part_is : (c : goal.After-part_of) → let i = c in
-    c.part_of.result ≡ part_in (goal.at.After-part_of c).At-loop-c i.loop-b.b i.loop-c.c
+part_is : (c : goal.After-part_of) → c.part_of.result ≡ part_in (goal.at.After-part_of c).At-loop-c c.loop-b.b c.loop-c.c
 part_is c =
-    let o = c in
-    c.part_of.ensures ∙ ap (λ (w : ℕ). bit_and (w / 2 ^ o.args.x) (bits_of (goal.at.After-part_of c).At-loop-c)) c.row_of-in-loop-b.ensures
+    c.part_of.ensures ∙ ap (λ (w : ℕ). bit_and (w / 2 ^ c.args.x) (bits_of (goal.at.After-part_of c).At-loop-c)) c.row_of-in-loop-b.ensures
 
 pub returns-then-part_of-like : goal.returns-then-part_of-like
 returns-then-part_of-like c = (

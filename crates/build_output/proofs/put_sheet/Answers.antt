@@ -36,14 +36,13 @@ put_vertices-requires c =
 pub put_triangles-requires : goal.put_triangles-requires
 put_triangles-requires c =
     let d = c.put_vertices.ensures in
-    let s = c in
-    let p = s.requires.full in
+    let p = c.requires.full in
     let at = p.1.stands in
     let made = c.pattern_table.ensures in
-    let room = (s.requires.fact c.if-number-ne0.false).triangle_room_law p.1.start at in
-    let long = triangles_length (L (goal.at.put_triangles-requires c).Start) p.0 _ _ p.1.start at s.args.slots.now s.requires.nz_in_bounds.1 _ _ made _ d.slots in record {
-      sized = (p.0.sized, made, omega (arith, s.requires.nz_in_bounds.1, c.put_vertices.auto));
-      fact = (at.sides.long, s.requires.nz_in_bounds.0);
+    let room = (c.requires.fact c.if-number-ne0.false).triangle_room_law p.1.start at in
+    let long = triangles_length (L (goal.at.put_triangles-requires c).Start) p.0 _ _ p.1.start at c.args.slots.now c.requires.nz_in_bounds.1 _ _ made _ d.slots in record {
+      sized = (p.0.sized, made, omega (arith, c.requires.nz_in_bounds.1, c.put_vertices.auto));
+      fact = (at.sides.long, c.requires.nz_in_bounds.0);
       vis_in_bounds = omega (arith, long, room);
     }
 
@@ -51,11 +50,10 @@ pub returns : goal.returns
 unfolding output_after
 returns c =
     let d = c.put_vertices.ensures in
-    let s = c in
-    let p = s.requires.full in
+    let p = c.requires.full in
     let made = c.pattern_table.ensures in
-    let slots = s.args.slots.now in
-    let fits = s.requires.fact c.if-number-ne0.false in (
+    let slots = c.args.slots.now in
+    let fits = c.requires.fact c.if-number-ne0.false in (
       record {
         written = λ k h.
             record {
@@ -63,10 +61,10 @@ returns c =
               triangles =
                   rw (eq-eqb _ 0 c.if-number-ne0.false)
                   (c.put_triangles.ensures
-                  ∙ ap (λ (l : List ℕ). over l s.args.triangles.now)
-                  (triangles_are (L (goal.at.returns c).Start) p.0 _ _ k h slots s.requires.nz_in_bounds.1 _ _ made _ d.slots));
+                  ∙ ap (λ (l : List ℕ). over l c.args.triangles.now)
+                  (triangles_are (L (goal.at.returns c).Start) p.0 _ _ k h slots c.requires.nz_in_bounds.1 _ _ made _ d.slots));
             };
       },
-      subst (Beyond (needed_slots s.args.sizes) slots) (sym d.slots)
+      subst (Beyond (needed_slots c.args.sizes) slots) (sym d.slots)
           (past_slots (L (goal.at.returns c).Start) p.0 _ _ p.1.start p.1.stands slots),
     )

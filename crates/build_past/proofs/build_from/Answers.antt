@@ -12,8 +12,6 @@ use Rattle.build_past.proofs.build_from.Goals.{Start}
 abbrev L : goal.Start → Lattice
 L s = lattice s.args.sizes s.args.samples.now
 
--- ── stages ──
-
 pub visit-visits-requires : goal.visit-visits-requires
 visit-visits-requires c =
     let p = c.requires in record {

@@ -14,8 +14,6 @@ abbrev before : goal.Start → Lent
 before s =
     lent s.args.vertices.now s.args.triangles.now (work s.args.words.now s.args.waiting.now s.args.slots.now)
 
--- ── stages ──
-
 pub returns-then-b-ne0 : goal.returns-then-b-ne0
 returns-then-b-ne0 c =
     refused (L (goal.at.returns-then-b-ne0 c).Start) c.args.start (before (goal.at.returns-then-b-ne0 c).Start) c.begin-b.result.number c.begin-b.ensures.answer c.if-b-ne0.true

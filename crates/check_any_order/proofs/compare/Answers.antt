@@ -26,11 +26,9 @@ w s = work (words_by s.args.sizes s.args.rows.now s.args.vis.now) s.args.waiting
 
 -- ── the records are compared ──
 
-slots_left : (c : goal.After-first_bad-i) → let s = c in
-    Beyond (needed_slots s.args.sizes) s.args.slots.now c.first_bad-i.new.slots
+slots_left : (c : goal.After-first_bad-i) → Beyond (needed_slots c.args.sizes) c.args.slots.now c.first_bad-i.new.slots
 slots_left c =
-    let s = c in
-    slots_beyond s.args.rule (L (goal.at.After-first_bad-i c).Start) (file_vertices (bs (goal.at.After-first_bad-i c).Start)) (file_v (bs (goal.at.After-first_bad-i c).Start)) s.args.slots.now _ c.first_bad-i.result
+    slots_beyond c.args.rule (L (goal.at.After-first_bad-i c).Start) (file_vertices (bs (goal.at.After-first_bad-i c).Start)) (file_v (bs (goal.at.After-first_bad-i c).Start)) c.args.slots.now _ c.first_bad-i.result
     c.first_bad-i.ensures.0 c.first_bad-i.ensures.1
 
 module _ (c : goal.Else-i-nv) where
@@ -39,15 +37,12 @@ module _ (c : goal.Else-i-nv) where
 
 -- ── and so are the triangles ──
 
-waiting_left : (c : goal.After-first_bad-j) → let s = c in
-    Beyond (needed s.args.sizes) s.args.waiting.now c.first_bad-j.new.seen
+waiting_left : (c : goal.After-first_bad-j) → Beyond (needed c.args.sizes) c.args.waiting.now c.first_bad-j.new.seen
 waiting_left c =
-    let s = c in
-    seen_beyond s.args.sizes (w (goal.at.After-first_bad-j c).Start).words (file_vertices (bs (goal.at.After-first_bad-j c).Start)) (file_triangles (bs (goal.at.After-first_bad-j c).Start)) (file_t (bs (goal.at.After-first_bad-j c).Start)) s.args.waiting.now _
+    seen_beyond c.args.sizes (w (goal.at.After-first_bad-j c).Start).words (file_vertices (bs (goal.at.After-first_bad-j c).Start)) (file_triangles (bs (goal.at.After-first_bad-j c).Start)) (file_t (bs (goal.at.After-first_bad-j c).Start)) c.args.waiting.now _
     c.first_bad-j.result c.first_bad-j.ensures.0 c.first_bad-j.ensures.1
 
-no_triple : (c : goal.Else-j-nt) → let s = c in
-    first_bad_triple s.args.sizes (w (goal.at.Else-j-nt c).Start).words (file_vertices (bs (goal.at.Else-j-nt c).Start)) (file_triangles (bs (goal.at.Else-j-nt c).Start)) s.args.waiting.now (file_t (bs (goal.at.Else-j-nt c).Start))
+no_triple : (c : goal.Else-j-nt) → first_bad_triple c.args.sizes (w (goal.at.Else-j-nt c).Start).words (file_vertices (bs (goal.at.Else-j-nt c).Start)) (file_triangles (bs (goal.at.Else-j-nt c).Start)) c.args.waiting.now (file_t (bs (goal.at.Else-j-nt c).Start))
     ≡ file_t (bs (goal.at.Else-j-nt c).Start)
 no_triple c = sym c.first_bad-j.ensures.0 ∙ (c.if-j-nt.false ∙ c.triangle_count-nt.ensures.0)
 

@@ -26,8 +26,6 @@ words_length : (z : Sizes) (rows vis : List ℕ) → length (words_by z rows vis
 unfolding words_by
 words_length z rows vis = length_along (λ k. word_by z rows vis (cube_at z k)) 0 (cubes z)
 
--- ── stages ──
-
 -- the waiting list and the slots, once these are numbered
 module _ (c : goal.After-number_slots) where
   abbrev z : Sizes

@@ -18,14 +18,12 @@ p_is : (c : goal.After-from_solid) → let a = c.args in
     to_z w16 (of_z w16 c.solid_of-p.result) ≡ cond (air a.first) a.second a.first
 p_is c =
     let r = c.solid_of-p in
-    let s = c in
     to_z-of_z {w = w16} (record { sfits = r.type_inv }) ∙ (r.ensures ∙ (λ i. cond (air (first_is (goal.at.After-from_solid c).Start i)) (second_is (goal.at.After-from_solid c).Start i) (first_is (goal.at.After-from_solid c).Start i)))
 
 q_is : (c : goal.After-from_solid) → let a = c.args in
     to_z w16 (of_z w16 c.airy_of-q.result) ≡ cond (air a.first) a.first a.second
 q_is c =
     let r = c.airy_of-q in
-    let s = c in
     to_z-of_z {w = w16} (record { sfits = r.type_inv }) ∙ (r.ensures ∙ (λ i. cond (air (first_is (goal.at.After-from_solid c).Start i)) (first_is (goal.at.After-from_solid c).Start i) (second_is (goal.at.After-from_solid c).Start i)))
 
 pub returns-then-s-gt65536 : goal.returns-then-s-gt65536

@@ -18,13 +18,12 @@ few s =
     let z = s.requires.full.0.sized in
     omega (arith, in_row s.args.sizes s.args.y s.args.z s.args.here s.requires.full.1 s.requires.full.2 s.requires.full.3 0 (omega (arith, z.x_low)), samples_few s.args.sizes z)
 
-below : (c : goal.Else-e-wide) → let s = c in c.edge_of-e.result < 7 * s.args.sizes.nx
+below : (c : goal.Else-e-wide) → c.edge_of-e.result < 7 * c.args.sizes.nx
 below c = omega (arith, c.edge_of-e.ensures.0, c.if-e-wide.false)
 
-slot : (c : goal.Else-e-wide) → let s = c in 7 * s.args.here + c.edge_of-e.result < needed_slots s.args.sizes
+slot : (c : goal.Else-e-wide) → 7 * c.args.here + c.edge_of-e.result < needed_slots c.args.sizes
 slot c =
-    let s = c in
-    edge_in_row s.args.sizes s.args.y s.args.z s.args.here s.requires.full.1 s.requires.full.2 s.requires.full.3 _ (below c)
+    edge_in_row c.args.sizes c.args.y c.args.z c.args.here c.requires.full.1 c.requires.full.2 c.requires.full.3 _ (below c)
 
 pub overflow_mul-row : goal.overflow_mul-row
 overflow_mul-row c = record { fits = omega (arith, few (goal.at.overflow_mul-row c).Start) }

@@ -25,7 +25,7 @@ abbrev edges : goal.Start → List ℕ
 edges s = let a = s.args in edges_of a.sizes a.rows.now a.vis.now a.y a.z
 
 -- the row's edges are those of its kinds
-row_is : (c : goal.After-kinds-k) → let s = c in let a = s.args in
+row_is : (c : goal.After-kinds-k) → let a = c.args in
     row_edges c.kinds-k.result (7 * (a.sizes.nx * (a.y + a.sizes.ny * a.z))) a.sizes.nx ≡ edges (goal.at.After-kinds-k c).Start
 row_is c =
     let a = c.args in

@@ -14,8 +14,6 @@ use Rattle.check_past.proofs.check_from.Goals.{Start}
 abbrev L : goal.Start → Lattice
 L s = lattice s.args.sizes s.args.samples.now
 
--- ── stages ──
-
 pub visit-requires : goal.visit-requires
 visit-requires c =
     let p = c.requires.fact in record {

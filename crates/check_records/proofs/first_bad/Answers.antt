@@ -24,39 +24,28 @@ vs s = file_vertices s.args.bytes.now
 
 -- the slots after the records before this one
 abbrev slots_at : goal.At-loop-i → List ℕ
-slots_at c = let s = c in slots_after (L (goal.at.At-loop-i c).Start) (vs (goal.at.At-loop-i c).Start) s.args.slots.now c.loop-i.i
+slots_at c = slots_after (L (goal.at.At-loop-i c).Start) (vs (goal.at.At-loop-i c).Start) c.args.slots.now c.loop-i.i
 
 long : (c : goal.At-loop-i) → length c.loop-i.slots ≡ length c.args.slots.now
 long c =
-    let s = c in
-    ap length c.loop-i.invariant.1 ∙ after_length (L (goal.at.At-loop-i c).Start) (vs (goal.at.At-loop-i c).Start) s.args.slots.now c.loop-i.i
+    ap length c.loop-i.invariant.1 ∙ after_length (L (goal.at.At-loop-i c).Start) (vs (goal.at.At-loop-i c).Start) c.args.slots.now c.loop-i.i
 
 -- the code's edge is that of the record, with the slots as they are
-edge : (c : goal.After-good_edge-e) → let l = c in
-    let s = l in
-    c.good_edge-e.result ≡ good_edge s.args.rule (L (goal.at.After-good_edge-e c).Start) (vs (goal.at.After-good_edge-e c).Start) (slots_at (goal.at.After-good_edge-e c).At-loop-i) l.loop-i.i
+edge : (c : goal.After-good_edge-e) → c.good_edge-e.result ≡ good_edge c.args.rule (L (goal.at.After-good_edge-e c).Start) (vs (goal.at.After-good_edge-e c).Start) (slots_at (goal.at.After-good_edge-e c).At-loop-i) c.loop-i.i
 edge c =
-    let l = c in
-    let s = l in
-    c.good_edge-e.ensures ∙ ap (λ (k : List ℕ). good_edge s.args.rule (L (goal.at.After-good_edge-e c).Start) (vs (goal.at.After-good_edge-e c).Start) k l.loop-i.i) l.loop-i.invariant.1
+    c.good_edge-e.ensures ∙ ap (λ (k : List ℕ). good_edge c.args.rule (L (goal.at.After-good_edge-e c).Start) (vs (goal.at.After-good_edge-e c).Start) k c.loop-i.i) c.loop-i.invariant.1
 
-all : (c : goal.After-good_edge-e) → let l = c in
-    7 * l.sample_count-n.result ≡ needed_slots l.args.sizes
+all : (c : goal.After-good_edge-e) → 7 * c.sample_count-n.result ≡ needed_slots c.args.sizes
 all c = ap (λ (n : ℕ). 7 * n) c.sample_count-n.ensures.0
 
-found : (c : goal.Else-e-n) → let l = c in
-    let s = l in
-    Found s.args.rule (L (goal.at.Else-e-n c).Start) (vs (goal.at.Else-e-n c).Start) (slots_at (goal.at.Else-e-n c).At-loop-i) l.loop-i.i
+found : (c : goal.Else-e-n) → Found c.args.rule (L (goal.at.Else-e-n c).Start) (vs (goal.at.Else-e-n c).Start) (slots_at (goal.at.Else-e-n c).At-loop-i) c.loop-i.i
 found c =
-    let l = c in
-    let s = l in
-    record_good s.args.rule (L (goal.at.Else-e-n c).Start) (vs (goal.at.Else-e-n c).Start) (slots_at (goal.at.Else-e-n c).At-loop-i) l.loop-i.i
+    record_good c.args.rule (L (goal.at.Else-e-n c).Start) (vs (goal.at.Else-e-n c).Start) (slots_at (goal.at.Else-e-n c).At-loop-i) c.loop-i.i
     (λ q. c.if-e-n.false (edge (goal.at.Else-e-n c).After-good_edge-e ∙ (q ∙ sym (all (goal.at.Else-e-n c).After-good_edge-e))))
 
 below : (c : goal.Else-e-n) → c.good_edge-e.result < needed_slots c.args.sizes
 below c =
-    let s = c in
-    subst (λ (k : ℕ). k < needed_slots s.args.sizes) (sym (edge (goal.at.Else-e-n c).After-good_edge-e)) (found c).below
+    subst (λ (k : ℕ). k < needed_slots c.args.sizes) (sym (edge (goal.at.Else-e-n c).After-good_edge-e)) (found c).below
 
 pub sample_count-n-requires : goal.sample_count-n-requires
 sample_count-n-requires c = c.requires.full.0.sized

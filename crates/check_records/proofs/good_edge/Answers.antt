@@ -35,7 +35,7 @@ vs s = file_vertices s.args.bytes.now
 all : (c : goal.After-edge_in-e) → 7 * c.sample_count-n.result ≡ needed_slots c.args.sizes
 all c = ap (λ (n : ℕ). 7 * n) c.sample_count-n.ensures.0
 
-edge : (c : goal.After-edge_in-e) → let s = c in c.edge_in-e.result ≡ edge_at (L (goal.at.After-edge_in-e c).Start) (vs (goal.at.After-edge_in-e c).Start) s.args.i
+edge : (c : goal.After-edge_in-e) → c.edge_in-e.result ≡ edge_at (L (goal.at.After-edge_in-e c).Start) (vs (goal.at.After-edge_in-e c).Start) c.args.i
 unfolding edge_at edge_of
 edge c =
     let w = c.record_word in
@@ -50,29 +50,23 @@ unfolding used
 in_use c = eq_to_t (ap not (ne_eqb _ _ c.if-slots-e-eq0.false))
 
 -- the anchor and the kind give the edge back
-back : (c : goal.After-anchor_of-p) → let at_edge_in = c in
-    let e = at_edge_in.edge_in-e.result in
-    7 * sample_no at_edge_in.args.sizes c.anchor_of-p.result + e % 7 ≡ e
+back : (c : goal.After-anchor_of-p) → let e = c.edge_in-e.result in
+    7 * sample_no c.args.sizes c.anchor_of-p.result + e % 7 ≡ e
 back c =
-    let at_edge_in = c in
-    let s = at_edge_in in
-    let z = s.args.sizes in
-    let e = at_edge_in.edge_in-e.result in
+    let z = c.args.sizes in
+    let e = c.edge_in-e.result in
     let h = below (goal.at.After-anchor_of-p c).Else-e-n in
     let q : sample_no z c.anchor_of-p.result ≡ e / 7 =
-    ap (sample_no z) c.anchor_of-p.ensures.0 ∙ sample_back z s.requires.full.0.sized (e / 7) (omega arith) in
+    ap (sample_no z) c.anchor_of-p.ensures.0 ∙ sample_back z c.requires.full.0.sized (e / 7) (omega arith) in
     omega arith
 
 -- the record is compared with the vertex's
-compared : (c : goal.After-same_record-good) → let s = c in
-    let i = s.args.i in
-    c.same_record-good.result ≡ same_numbers (record_of (vs (goal.at.After-same_record-good c).Start) i) (vertex_record s.args.rule (L (goal.at.After-same_record-good c).Start) (edge_at (L (goal.at.After-same_record-good c).Start) (vs (goal.at.After-same_record-good c).Start) i))
+compared : (c : goal.After-same_record-good) → let i = c.args.i in
+    c.same_record-good.result ≡ same_numbers (record_of (vs (goal.at.After-same_record-good c).Start) i) (vertex_record c.args.rule (L (goal.at.After-same_record-good c).Start) (edge_at (L (goal.at.After-same_record-good c).Start) (vs (goal.at.After-same_record-good c).Start) i))
 compared c =
-    let past = c in
-    let s = past in
     c.same_record-good.ensures
-    ∙ ap (same_numbers (record_of (vs (goal.at.After-same_record-good c).Start) s.args.i))
-    (c.vertex_on-v.ensures ∙ ap (vertex_record s.args.rule (L (goal.at.After-same_record-good c).Start)) (back (goal.at.After-same_record-good c).After-anchor_of-p ∙ edge (goal.at.After-same_record-good c).After-edge_in-e))
+    ∙ ap (same_numbers (record_of (vs (goal.at.After-same_record-good c).Start) c.args.i))
+    (c.vertex_on-v.ensures ∙ ap (vertex_record c.args.rule (L (goal.at.After-same_record-good c).Start)) (back (goal.at.After-same_record-good c).After-anchor_of-p ∙ edge (goal.at.After-same_record-good c).After-edge_in-e))
 
 pub returns-then-e-n : goal.returns-then-e-n
 returns-then-e-n c =

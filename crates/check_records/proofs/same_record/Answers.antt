@@ -36,24 +36,21 @@ told : (b w : ℤ) (r t : Bool) → SFits w32 b → r ≡ same_number w (to_z w3
 told b w r t g q h = ap (same_number w) (sym (to_z-of_z g)) ∙ (sym q ∙ h)
 
 edge : (c : goal.After-same_word-e) (t : Bool) → c.same_word-e.result ≡ t
-    → let s = c in same_number (word (goal.at.After-same_word-e c).Start (4 * s.args.i)) s.args.v.edge ≡ t
+    → same_number (word (goal.at.After-same_word-e c).Start (4 * c.args.i)) c.args.v.edge ≡ t
 edge c t h =
-    let s = c in
-    told s.args.v.edge (word (goal.at.After-same_word-e c).Start (4 * s.args.i)) c.same_word-e.result t
+    told c.args.v.edge (word (goal.at.After-same_word-e c).Start (4 * c.args.i)) c.same_word-e.result t
     (record { sfits = c.struct_told-1.given.0.1 }) c.same_word-e.ensures h
 
 x : (c : goal.After-same_word-x) (t : Bool) → c.same_word-x.result ≡ t
-    → let s = c in same_number (word (goal.at.After-same_word-x c).Start (4 * s.args.i + 1)) s.args.v.x ≡ t
+    → same_number (word (goal.at.After-same_word-x c).Start (4 * c.args.i + 1)) c.args.v.x ≡ t
 x c t h =
-    let s = c in
-    told s.args.v.x (word (goal.at.After-same_word-x c).Start (4 * s.args.i + 1)) c.same_word-x.result t
+    told c.args.v.x (word (goal.at.After-same_word-x c).Start (4 * c.args.i + 1)) c.same_word-x.result t
     (record { sfits = c.struct_told-2-1.given.1.0.1 }) c.same_word-x.ensures h
 
 y : (c : goal.After-same_word-y) (t : Bool) → c.same_word-y.result ≡ t
-    → let s = c in same_number (word (goal.at.After-same_word-y c).Start (4 * s.args.i + 2)) s.args.v.y ≡ t
+    → same_number (word (goal.at.After-same_word-y c).Start (4 * c.args.i + 2)) c.args.v.y ≡ t
 y c t h =
-    let s = c in
-    told s.args.v.y (word (goal.at.After-same_word-y c).Start (4 * s.args.i + 2)) c.same_word-y.result t
+    told c.args.v.y (word (goal.at.After-same_word-y c).Start (4 * c.args.i + 2)) c.same_word-y.result t
     (record { sfits = c.struct_told-3-1.given.1.1.0.1 }) c.same_word-y.ensures h
 
 pub returns-then-not-e : goal.returns-then-not-e

@@ -13,11 +13,10 @@ use Rattle.check_triangles.proofs.corner_edge.Goals as goal
 use Rattle.check_triangles.proofs.corner_edge.Goals.{After-edge_in, After-triangle_word-v}
 
 index : (c : goal.After-triangle_word-v) → c.triangle_word-v.result < file_v c.args.bytes.now
-index c = let s = c in omega (arith, c.triangle_word-v.ensures, s.requires.0.below s.args.j s.requires.2)
+index c = omega (arith, c.triangle_word-v.ensures, c.requires.0.below c.args.j c.requires.2)
 
-edge : (c : goal.After-edge_in) → let at_word = c in
-    let a = at_word.args in
-    c.edge_in.result ≡ edge_in (edge_of (file_vertices a.bytes.now) at_word.triangle_word-v.result) a.n
+edge : (c : goal.After-edge_in) → let a = c.args in
+    c.edge_in.result ≡ edge_in (edge_of (file_vertices a.bytes.now) c.triangle_word-v.result) a.n
 unfolding edge_of
 edge c =
     let w = c.record_word in

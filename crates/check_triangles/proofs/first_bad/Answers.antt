@@ -38,8 +38,7 @@ module _ (s : goal.Start) where
 
 long : (c : goal.At-loop-i) → length c.loop-i.seen ≡ length c.args.seen.now
 long c =
-    let s = c in
-    ap length c.loop-i.invariant.bits ∙ after_length (z (goal.at.At-loop-i c).Start) (words (goal.at.At-loop-i c).Start) (vs (goal.at.At-loop-i c).Start) (ts (goal.at.At-loop-i c).Start) s.args.seen.now c.loop-i.i
+    ap length c.loop-i.invariant.bits ∙ after_length (z (goal.at.At-loop-i c).Start) (words (goal.at.At-loop-i c).Start) (vs (goal.at.At-loop-i c).Start) (ts (goal.at.At-loop-i c).Start) c.args.seen.now c.loop-i.i
 
 all : (c : goal.At-loop-i) → 7 * c.sample_count-n.result ≡ needed_slots (z (goal.at.At-loop-i c).Start)
 all c = ap (λ (n : ℕ). 7 * n) c.sample_count-n.ensures.0

@@ -41,7 +41,7 @@ begins c = c.begin-ready.ensures.begins c.if-ready-ne0.false
 told : (c : goal.Else-file-ne0) → (judge (file_tests (bs (goal.at.Else-file-ne0 c).Start))).number ≡ 0
 told c = sym (ap (λ (v : Verdict). v.number) c.tested-file.ensures) ∙ c.if-file-ne0.false
 
-same : (c : goal.After-same_sizes-same) → let s = c in c.same_sizes-same.result ≡ same_sizes (file_sizes (bs (goal.at.After-same_sizes-same c).Start)) s.args.sizes
+same : (c : goal.After-same_sizes-same) → c.same_sizes-same.result ≡ same_sizes (file_sizes (bs (goal.at.After-same_sizes-same c).Start)) c.args.sizes
 same c = c.same_sizes-same.ensures ∙ ap (λ z. same_sizes z c.args.sizes) c.sizes_of.ensures
 
 pub returns-then-ready-ne0 : goal.returns-then-ready-ne0

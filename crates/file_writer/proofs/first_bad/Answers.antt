@@ -9,13 +9,11 @@ use Rattle.file_writer.proofs.first_bad.Goals.{After-any_from}
 
 -- the test that a turn makes is the definition's
 judged : (c : goal.After-any_from)
-    → let l = c in
-    let a = l.args in
-    c.any_from.result ≡ bad_triangle a.nv a.triangles.now l.loop-i.i
+    → let a = c.args in
+    c.any_from.result ≡ bad_triangle a.nv a.triangles.now c.loop-i.i
 judged c =
-    let l = c in
-    let a = l.args in
-    c.any_from.ensures ∙ sym (bad_is a.nv a.triangles.now l.loop-i.i)
+    let a = c.args in
+    c.any_from.ensures ∙ sym (bad_is a.nv a.triangles.now c.loop-i.i)
 
 pub loop-i-init : goal.loop-i-init
 loop-i-init c = (omega arith, below_none _)

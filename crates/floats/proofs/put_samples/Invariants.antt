@@ -1,4 +1,5 @@
 -- `floats::put_samples` meets its contract. The loop's invariant: the samples of the voxels passed are stored, the rest is as it was.
+-- Assumes nothing.
 use mathlib.Core.Path.{◌≡◌}
 use mathlib.Core.List.{◌++◌, map}
 use Prim.Native.Nat.{◌-◌, ◌≤◌}

@@ -24,12 +24,11 @@ loop-y-init c =
 inside : (c : goal.In-loop-y) → let a = c.args in let y = c.loop-y.y in
     (y + a.sizes.ny * a.z < a.sizes.ny * a.sizes.nz) × (y + a.sizes.ny * a.z < 4096) × (y + 1 < a.sizes.ny)
 inside c =
-    let s = c in
-    let a = s.args in
+    let a = c.args in
     let y = c.loop-y.y in
     let h : y + 1 < a.sizes.ny = omega arith in
-    let l = row_lt a.sizes y a.z (omega arith) (omega (arith, s.requires.sized.1)) in
-    (l, omega (arith, layer_few a.sizes s.requires.sized.0), h)
+    let l = row_lt a.sizes y a.z (omega arith) (omega (arith, c.requires.sized.1)) in
+    (l, omega (arith, layer_few a.sizes c.requires.sized.0), h)
 
 pub overflow_mul-m : goal.overflow_mul-m
 overflow_mul-m c = omega (arith, inside (goal.at.overflow_mul-m c).In-loop-y)

@@ -13,8 +13,6 @@ use borrow.Author.Tests.{not-true, not-false}
 use Rattle.gather.proofs.try_cube.Goals as goal
 use Rattle.gather.proofs.try_cube.Goals.{After-cube_no, Start}
 
--- ── stages ──
-
 abbrev given : goal.Start → Held
 given s = held s.args.vis.now s.args.waiting.now s.args.list.now s.args.n
 
@@ -54,12 +52,11 @@ flood-requires c =
       closed = (p.fact.0.closed, p.fact.1, p.fact.0.wide);
     }
 
-below : (c : goal.After-cube_no) → let s = c in s.args.n < length s.args.list.now × (s.args.n < 250047)
+below : (c : goal.After-cube_no) → c.args.n < length c.args.list.now × (c.args.n < 250047)
 below c =
-    let s = c in
-    let l = cube_lt s.args.sizes s.args.p s.requires.sized.1 in
-    let f = s.requires.fact.0 in
-    (omega (arith, f.few, f.long, l), omega (arith, f.few, l, cubes_few s.args.sizes s.requires.sized.0))
+    let l = cube_lt c.args.sizes c.args.p c.requires.sized.1 in
+    let f = c.requires.fact.0 in
+    (omega (arith, f.few, f.long, l), omega (arith, f.few, l, cubes_few c.args.sizes c.requires.sized.0))
 
 pub overflow_cast-list : goal.overflow_cast-list
 overflow_cast-list c = omega (arith, c.cube_no.ensures.1, cubes_few c.args.sizes c.requires.sized.0)

@@ -9,16 +9,13 @@ use Rattle.layout.proofs.sought_bad.Goals.{After-any_from}
 
 -- the test that a turn makes is the definition's
 judged : (c : goal.After-any_from)
-    → let l = c in
-    let a = l.args in
-    c.any_from.result ≡ bad_triangle a.nv (file_triangles a.bytes.now) l.loop-i.i
+    → let a = c.args in
+    c.any_from.result ≡ bad_triangle a.nv (file_triangles a.bytes.now) c.loop-i.i
 judged c =
-    let l = c in
-    let a = l.args in
-    let w = c in
+    let a = c.args in
     c.any_from.ensures
-    ∙ (rw (w.triangle_word-in-loop-i-2.ensures, w.triangle_word-in-loop-i.ensures, w.triangle_word.ensures)
-    (sym (bad_is a.nv (file_triangles a.bytes.now) l.loop-i.i)))
+    ∙ (rw (c.triangle_word-in-loop-i-2.ensures, c.triangle_word-in-loop-i.ensures, c.triangle_word.ensures)
+    (sym (bad_is a.nv (file_triangles a.bytes.now) c.loop-i.i)))
 
 pub loop-i-init : goal.loop-i-init
 loop-i-init c = (omega arith, below_none _)

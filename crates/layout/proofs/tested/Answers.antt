@@ -46,8 +46,6 @@ last : (c : goal.Else-not-laid_out)
     judge (file_tests bs) ≡ judge (index_test (file_v bs) (file_t bs) (file_triangles bs) ∷ [])
 unfolding file_tests
 last c =
-    let c₃ = c in
-    let c₂ = c₃ in
     rw (long (goal.at.Else-not-laid_out c).Else-bytes-lt24, marked (goal.at.Else-not-laid_out c).Else-trailer2-ne21331, sized (goal.at.Else-not-laid_out c).Else-not-axes_pass, laid c)
 
 found : (c : goal.After-first_bad_in-bad) → let bs = bytes₄ (goal.at.After-first_bad_in-bad c).Else-not-laid_out in

@@ -22,7 +22,6 @@ count c = c.sample_count-n.ensures.0 ∙ ap samples c.sizes_of-sizes.ensures
 
 fits : (c : goal.After-get_i16s) → c.sample_count-n.result ≤ length c.get_i16s.new.v
 fits c =
-    let n = c in
     omega (arith, count (goal.at.After-get_i16s c).After-sample_count-n, (passed (goal.at.After-get_i16s c).Else-number-ne0).few, c.get_i16s.auto)
 
 pub returns-then-number-ne0 : goal.returns-then-number-ne0

@@ -40,8 +40,7 @@ room c = c.in_room.ensures ∙ ap listable c.sizes_of-sizes.ensures
 
 count : (c : goal.After-sample_count) → 6 + 2 * c.sample_count.result ≡ 6 + 2 * samples (listed_sizes (bytes₄ c))
 count c =
-    let at_sizes = c in
-    ap (λ (n : ℕ). 6 + 2 * n) (c.sample_count.ensures.0 ∙ ap samples at_sizes.sizes_of-sizes.ensures)
+    ap (λ (n : ℕ). 6 + 2 * n) (c.sample_count.ensures.0 ∙ ap samples c.sizes_of-sizes.ensures)
 
 number_is : (bs : List ℕ) (n : ℕ) → judge (listing_tests bs) ≡ verdict n 0 → n ≡ listing_number bs
 unfolding listing_number

@@ -114,11 +114,8 @@ returns-after-sought c s h =
 
 -- the cube that is found
 cube_in : (c : goal.Then-has_bit)
-    → let l = c in
-    CubeIn ((l)).args.sizes (place l.loop-x.x l.loop-y.y ((l)).sought.z)
+    → CubeIn ((c)).args.sizes (place c.loop-x.x c.loop-y.y ((c)).sought.z)
 cube_in c =
-    let l = c in
-    let k = l in
     record {
       x = omega (arith, short (goal.at.Then-has_bit c).At-loop-x);
       y = omega arith;

@@ -9,13 +9,11 @@ use Rattle.marking.proofs.mark_cubes.Goals as goal
 use Rattle.marking.proofs.mark_cubes.Goals.{After-least-z_end}
 
 -- the cube is within the cut
-ends : (c : goal.After-least-z_end) → let s = c in
-    (s.args.y ≤ c.least-y_end.result) × (s.args.z ≤ c.least-z_end.result)
+ends : (c : goal.After-least-z_end) → (c.args.y ≤ c.least-y_end.result) × (c.args.z ≤ c.least-z_end.result)
 ends c =
-    let s = c in
-    let a = s.args in
-    let n = some (place a.x a.y a.z) a.size s.requires.cube_in.1 in
-    let i = s.requires.cube_in.0 in
+    let a = c.args in
+    let n = some (place a.x a.y a.z) a.size c.requires.cube_in.1 in
+    let i = c.requires.cube_in.0 in
     let y = c.least-y_end.ensures.2 a.y (omega arith) (omega (arith, i.y)) in
     let z = c.least-z_end.ensures.2 a.z (omega arith) (omega (arith, i.z)) in
     (omega arith, omega arith)

@@ -14,8 +14,6 @@ use Rattle.blocks.proofs.Boxes.{part_marked}
 use Rattle.marking.proofs.mark_part.Goals as goal
 use Rattle.marking.proofs.mark_part.Goals.{Start}
 
--- ── stages ──
-
 inside : (s : goal.Start) → let a = s.args in
     (a.y + a.sizes.ny * a.z < a.sizes.ny * a.sizes.nz) × (a.y + a.sizes.ny * a.z < 4096)
 inside s =

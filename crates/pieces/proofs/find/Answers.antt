@@ -16,8 +16,6 @@ use Rattle.pieces.proofs.Answers.{refused, settled}
 use Rattle.pieces.proofs.find.Goals as goal
 use Rattle.pieces.proofs.find.Goals.{Else-number-ne0, Start}
 
--- ── stages ──
-
 abbrev L : goal.Start → Lattice
 L s = lattice s.args.sizes s.args.samples.now
 

@@ -5,8 +5,6 @@ use Rattle.spread.proofs.Joining.{fresh}
 use Rattle.pieces.proofs.Answers.{fit_begun, on_waiting, on_slots, count_few, finds_none, finds_some}
 use Rattle.pieces.proofs.find_past.Goals as goal
 
--- ── stages ──
-
 pub mark_crossed-requires : goal.mark_crossed-requires
 mark_crossed-requires c =
     let e = fresh c.args.sizes c.requires.0 in record {

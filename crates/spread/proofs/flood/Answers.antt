@@ -39,16 +39,13 @@ popped_lt l =
 full_lt : (c : goal.After-filled-full) → c.filled-full.result < 2 ^ 64
 full_lt c = omega (arith, c.filled-full.type_inv)
 
-roomy : (c : goal.After-filled-full) → let l = c in
-    Roomy (words l.args.z) (rows_of l.args.z) (is_row l.args.z)
-    (flow (set l.loop-h.due (at (goal.at.After-filled-full c).In-loop-h) 0) l.loop-h.waiting (l.loop-h.h - 1))
+roomy : (c : goal.After-filled-full) → Roomy (words c.args.z) (rows_of c.args.z) (is_row c.args.z)
+    (flow (set c.loop-h.due (at (goal.at.After-filled-full c).In-loop-h) 0) c.loop-h.waiting (c.loop-h.h - 1))
 roomy c =
-    let l = c in
-    let s = l in
-    let a = s.args in
-    at_roomy a.z a.rows.now a.may.now a.row a.x s.requires.sized.0 s.requires.sized.1 s.requires.sized.2 _ s.requires.closed.0
+    let a = c.args in
+    at_roomy a.z a.rows.now a.may.now a.row a.x c.requires.sized.0 c.requires.sized.1 c.requires.sized.2 _ c.requires.closed.0
     _ _ _ _ _ _ _ _
-    (some (goal.at.After-filled-full c).In-loop-h) l.loop-h.invariant _ c.quad_at-q.ensures _ _ c.gate_row.ensures (full_lt c)
+    (some (goal.at.After-filled-full c).In-loop-h) c.loop-h.invariant _ c.quad_at-q.ensures _ _ c.gate_row.ensures (full_lt c)
     c.filled-full.ensures
 
 -- what is so where the loop is left
@@ -59,18 +56,16 @@ left : (c : goal.After-loop-h) → let a = c.args in
     (room l.vis l.waiting) l.seen
     × Empty (words z) l.due × Beyond (words z) a.due.now l.due
 left c =
-    let w = c in
-    let s = w in
-    let a = s.args in
+    let a = c.args in
     let l = c.loop-h in
-    let k = first_kept a.z a.rows.now a.may.now a.row a.x s.requires.sized.0 s.requires.sized.1 s.requires.sized.2
-    a.due.now a.waiting.now _ _ s.requires.closed.1 s.requires.closed.2 w.wait_row-h.ensures in
+    let k = first_kept a.z a.rows.now a.may.now a.row a.x c.requires.sized.0 c.requires.sized.1 c.requires.sized.2
+    a.due.now a.waiting.now _ _ c.requires.closed.1 c.requires.closed.2 c.wait_row-h.ensures in
     let e : l.h ≡ 0 = omega arith in (
-      flooding_done a.z a.rows.now a.may.now a.row a.x s.requires.sized.0 s.requires.sized.1 s.requires.sized.2
-          a.vis.now s.requires.closed.0 _ a.waiting.now _ l.vis (flow l.due l.waiting l.h) l.seen e l.invariant
+      flooding_done a.z a.rows.now a.may.now a.row a.x c.requires.sized.0 c.requires.sized.1 c.requires.sized.2
+          a.vis.now c.requires.closed.0 _ a.waiting.now _ l.vis (flow l.due l.waiting l.h) l.seen e l.invariant
           k.on_waiting,
-      due_done a.z a.rows.now a.may.now a.row a.x s.requires.sized.0 s.requires.sized.1 s.requires.sized.2
-          a.vis.now s.requires.closed.0 _ a.waiting.now _ l.vis (flow l.due l.waiting l.h) l.seen e l.invariant
+      due_done a.z a.rows.now a.may.now a.row a.x c.requires.sized.0 c.requires.sized.1 c.requires.sized.2
+          a.vis.now c.requires.closed.0 _ a.waiting.now _ l.vis (flow l.due l.waiting l.h) l.seen e l.invariant
           k.on_waiting,
       beyond_trans k.on_due l.invariant.on_due,
     )

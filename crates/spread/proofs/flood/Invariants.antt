@@ -1,4 +1,5 @@
 -- Each turn takes a row off the list, fills it and spreads: the invariant is `Flooding`. What is not visited, five times, and what waits
+-- falls. Assumes nothing.
 use Prim.Native.Nat.{◌+◌, ◌*◌, ◌-◌}
 use Rattle.ways.specs.Flow.{flow}
 use Rattle.ways.specs.Ways.{words}

@@ -20,8 +20,7 @@ second : (c : goal.After-in_bounds-2)
 second c = c.in_bounds-2.ensures ∙ ap in_bounds (to_z-of_z {w = w32} (record { sfits = c.in_bounds-arg-2-1.given }))
 
 third : (c : goal.After-in_bounds-3)
-    → let known = c in
-    let a = known.args in
+    → let a = c.args in
     c.in_bounds-3.result ≡ in_bounds (number_of a.vertices.now a.v 3)
 third c = c.in_bounds-3.ensures ∙ ap in_bounds (to_z-of_z {w = w32} (record { sfits = c.in_bounds-arg-3-1.given }))
 

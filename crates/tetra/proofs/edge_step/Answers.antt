@@ -7,6 +7,5 @@ use Rattle.tetra.proofs.edge_step.Goals as goal
 
 pub returns-then-e-eq0 : goal.returns-then-e-eq0
 returns-then-e-eq0 c =
-    let s = c in
-    let e : 6 * s.args.t ≡ 6 * s.args.t + (s.args.e - 1) = omega (arith, c.if-e-eq0.true) in
-    ap (λ (i : ℕ). get_or s.args.steps.now i 0) e
+    let e : 6 * c.args.t ≡ 6 * c.args.t + (c.args.e - 1) = omega (arith, c.if-e-eq0.true) in
+    ap (λ (i : ℕ). get_or c.args.steps.now i 0) e

@@ -36,12 +36,6 @@ offset_bounds-rows-k c = omega arith
 pub offset_bounds-rows-k-in-loop-i : goal.offset_bounds-rows-k-in-loop-i
 offset_bounds-rows-k-in-loop-i c = omega arith
 
--- GONE index_1_edge_step : tie.Need-bounds-1-edge-step invariant_loop decreases_loop
--- GONE index_1_edge_step c = omega arith
-
--- GONE index_2_edge_step : tie.Need-bounds-2-edge-step invariant_loop decreases_loop
--- GONE index_2_edge_step c = omega arith
-
 pub edge_step-requires : goal.edge_step-requires
 edge_step-requires c =
     let i = c.loop-i.i in

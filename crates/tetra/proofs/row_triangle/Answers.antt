@@ -39,9 +39,8 @@ bounds-steps-at c = omega (arith, two (goal.at.bounds-steps-at c).Start)
 
 pub overflow_add-result : goal.overflow_add-result
 overflow_add-result c =
-    let s = c in
-    let k = 3 * s.args.j in
-    omega (arith, s.requires.5, small (goal.at.overflow_add-result c).Start (96 * s.args.t + 6 * s.args.r + k) k (omega arith) (omega (arith, two (goal.at.overflow_add-result c).Start)))
+    let k = 3 * c.args.j in
+    omega (arith, c.requires.5, small (goal.at.overflow_add-result c).Start (96 * c.args.t + 6 * c.args.r + k) k (omega arith) (omega (arith, two (goal.at.overflow_add-result c).Start)))
 
 pub overflow_add-result-2 : goal.overflow_add-result-2
 overflow_add-result-2 c = omega (arith, two (goal.at.overflow_add-result-2 c).Start)
@@ -54,9 +53,8 @@ bounds-steps-at-2 c = omega (arith, two (goal.at.bounds-steps-at-2 c).Start)
 
 pub overflow_add-result-3 : goal.overflow_add-result-3
 overflow_add-result-3 c =
-    let s = c in
-    let k = 3 * s.args.j in
-    omega (arith, s.requires.5, small (goal.at.overflow_add-result-3 c).Start (96 * s.args.t + 6 * s.args.r + k + 1) (k + 1) (omega arith) (omega (arith, two (goal.at.overflow_add-result-3 c).Start)))
+    let k = 3 * c.args.j in
+    omega (arith, c.requires.5, small (goal.at.overflow_add-result-3 c).Start (96 * c.args.t + 6 * c.args.r + k + 1) (k + 1) (omega arith) (omega (arith, two (goal.at.overflow_add-result-3 c).Start)))
 
 pub overflow_add-result-4 : goal.overflow_add-result-4
 overflow_add-result-4 c = omega (arith, two (goal.at.overflow_add-result-4 c).Start)
@@ -69,17 +67,15 @@ bounds-steps-at-3 c = omega (arith, two (goal.at.bounds-steps-at-3 c).Start)
 
 pub overflow_add-result-5 : goal.overflow_add-result-5
 overflow_add-result-5 c =
-    let s = c in
-    let k = 3 * s.args.j in
-    omega (arith, s.requires.5, small (goal.at.overflow_add-result-5 c).Start (96 * s.args.t + 6 * s.args.r + k + 2) (k + 2) (omega arith) (omega (arith, two (goal.at.overflow_add-result-5 c).Start)))
+    let k = 3 * c.args.j in
+    omega (arith, c.requires.5, small (goal.at.overflow_add-result-5 c).Start (96 * c.args.t + 6 * c.args.r + k + 2) (k + 2) (omega arith) (omega (arith, two (goal.at.overflow_add-result-5 c).Start)))
 
 pub returns : goal.returns
 returns c =
-    let s = c in
-    let i = 96 * s.args.t + 6 * s.args.r + 3 * s.args.j in
-    let k = 3 * s.args.j in
+    let i = 96 * c.args.t + 6 * c.args.r + 3 * c.args.j in
+    let k = 3 * c.args.j in
     let a = at (goal.at.returns c).Start i k (omega arith) (omega (arith, two (goal.at.returns c).Start)) in
     let b = at (goal.at.returns c).Start (i + 1) (k + 1) (omega arith) (omega (arith, two (goal.at.returns c).Start)) in
     let d = at (goal.at.returns c).Start (i + 2) (k + 2) (omega arith) (omega (arith, two (goal.at.returns c).Start)) in
-    (λ i. tri (s.args.base + a i) (s.args.base + b i) (s.args.base + d i))
-    ∙ sym (row_triangle s.args.sizes s.args.base s.args.t s.args.r s.args.j s.requires.4)
+    (λ i. tri (c.args.base + a i) (c.args.base + b i) (c.args.base + d i))
+    ∙ sym (row_triangle c.args.sizes c.args.base c.args.t c.args.r c.args.j c.requires.4)

@@ -18,7 +18,7 @@ at s =
 
 pub bit-requires : goal.bit-requires
 bit-requires c =
-    let s = c in omega (arith, at (goal.at.bit-requires c).Start, tet_corner_lt s.args.t s.args.j s.requires.1 s.requires.2)
+    omega (arith, at (goal.at.bit-requires c).Start, tet_corner_lt c.args.t c.args.j c.requires.1 c.requires.2)
 
 pub returns : goal.returns
-returns c = let s = c in (c.bit.ensures.0 ∙ ap (bit_of s.args.m) (at (goal.at.returns c).Start), c.bit.ensures.1)
+returns c = (c.bit.ensures.0 ∙ ap (bit_of c.args.m) (at (goal.at.returns c).Start), c.bit.ensures.1)

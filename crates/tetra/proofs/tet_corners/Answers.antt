@@ -18,12 +18,6 @@ offset_bounds-tets-i c = omega arith
 pub offset_bounds-tets-i-in-loop-i : goal.offset_bounds-tets-i-in-loop-i
 offset_bounds-tets-i-in-loop-i c = omega arith
 
--- GONE index_1_corners : tie.Need-bounds-1-corners invariant_loop decreases_loop
--- GONE index_1_corners c = omega arith
-
--- GONE index_2_corners : tie.Need-bounds-2-corners invariant_loop decreases_loop
--- GONE index_2_corners c = omega arith
-
 pub offset_bounds-corners-i : goal.offset_bounds-corners-i
 offset_bounds-corners-i c = omega arith
 

@@ -20,23 +20,11 @@ offset_bounds-lows-i c = omega arith
 pub offset_bounds-lows-i-in-loop-i : goal.offset_bounds-lows-i-in-loop-i
 offset_bounds-lows-i-in-loop-i c = omega arith
 
--- GONE index_1_step_of : tie.Need-bounds-1-step-of invariant_loop decreases_loop
--- GONE index_1_step_of c = omega arith
-
--- GONE index_2_step_of : tie.Need-bounds-2-step-of invariant_loop decreases_loop
--- GONE index_2_step_of c = omega arith
-
 pub offset_bounds-kinds-i : goal.offset_bounds-kinds-i
 offset_bounds-kinds-i c = omega arith
 
 pub offset_bounds-kinds-i-in-loop-i : goal.offset_bounds-kinds-i-in-loop-i
 offset_bounds-kinds-i-in-loop-i c = omega arith
-
--- GONE index_1_step_of_2 : tie.Need-bounds-1-step-of-2 invariant_loop decreases_loop
--- GONE index_1_step_of_2 c = omega arith
-
--- GONE index_2_step_of_2 : tie.Need-bounds-2-step-of-2 invariant_loop decreases_loop
--- GONE index_2_step_of_2 c = omega arith
 
 pub step_of-requires : goal.step_of-requires
 step_of-requires c =

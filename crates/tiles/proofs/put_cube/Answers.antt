@@ -18,15 +18,14 @@ few : (c : goal.In-loop-i) → c.loop-i.i < 36
 few c = omega (arith, c.loop-i-test.true, c.requires.fact.0.few)
 
 -- the slot c its edge
-slot : (c : goal.In-loop-i) → let s = c in edge_in (from (goal.at.In-loop-i c).Start) s.args.m s.args.base
-    c.loop-i.i < length s.args.slots.now
+slot : (c : goal.In-loop-i) → edge_in (from (goal.at.In-loop-i c).Start) c.args.m c.args.base
+    c.loop-i.i < length c.args.slots.now
 slot c = c.requires.fact.0.below c.loop-i.i c.loop-i-test.true
 
 long : (c : goal.At-loop-i) → length c.loop-i.out ≡ length c.args.out.now
 long c =
-    let s = c in
-    ap length c.loop-i.invariant.stored ∙ length-sets s.args.out.now s.args.at
-    (tile_upto (from (goal.at.At-loop-i c).Start) s.args.m s.args.base c.loop-i.i)
+    ap length c.loop-i.invariant.stored ∙ length-sets c.args.out.now c.args.at
+    (tile_upto (from (goal.at.At-loop-i c).Start) c.args.m c.args.base c.loop-i.i)
 
 pub loop-i-init : goal.loop-i-init
 loop-i-init c =

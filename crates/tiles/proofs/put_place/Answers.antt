@@ -15,15 +15,12 @@ abbrev from : goal.Start → Source
 from s = source s.args.table.now s.args.counts.now s.args.slots.now
 
 -- the cube's own pattern
-same : (c : goal.After-pattern-m) → let s = c in
-    tile_of (from (goal.at.After-pattern-m c).Start) c.pattern-m.result (s.args.base + 7 * s.args.x)
-    ≡ tile_at (from (goal.at.After-pattern-m c).Start) s.args.q s.args.v s.args.base s.args.x
+same : (c : goal.After-pattern-m) → tile_of (from (goal.at.After-pattern-m c).Start) c.pattern-m.result (c.args.base + 7 * c.args.x)
+    ≡ tile_at (from (goal.at.After-pattern-m c).Start) c.args.q c.args.v c.args.base c.args.x
 same c =
-    let t = c in
-    let s = t in
-    let a = s.args in
+    let a = c.args in
     ap (λ (m : ℕ). tile_of (from (goal.at.After-pattern-m c).Start) m (a.base + 7 * a.x)) c.pattern-m.ensures.0
-    ∙ sym (place_on (from (goal.at.After-pattern-m c).Start) a.q a.v a.base a.x (sym t.has_bit.ensures ∙ t.if-has_bit.true))
+    ∙ sym (place_on (from (goal.at.After-pattern-m c).Start) a.q a.v a.base a.x (sym c.has_bit.ensures ∙ c.if-has_bit.true))
 
 pub put_cube-requires : goal.put_cube-requires
 put_cube-requires c =

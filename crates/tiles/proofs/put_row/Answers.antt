@@ -15,8 +15,7 @@ one s = tile_at (source s.args.table.now s.args.counts.now s.args.slots.now) s.a
 
 long : (c : goal.At-loop-x) → length c.loop-x.out ≡ length c.args.out.now
 long c =
-    let s = c in
-    laid_long (one (goal.at.At-loop-x c).Start) s.args.at s.args.n c.loop-x.x c.loop-x.next s.args.out.now c.loop-x.out c.loop-x.invariant
+    laid_long (one (goal.at.At-loop-x c).Start) c.args.at c.args.n c.loop-x.x c.loop-x.next c.args.out.now c.loop-x.out c.loop-x.invariant
 
 pub loop-x-init : goal.loop-x-init
 loop-x-init c =

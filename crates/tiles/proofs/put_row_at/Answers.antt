@@ -42,12 +42,10 @@ wide : (s : goal.Start) → s.args.sizes.nx * row_no s ≤ 262144
 wide s = mul-le-mul s.requires.sized.0.x_high (few s)
 
 -- by the quad that the call gives
-same : (c : goal.After-quad_at-q) → let s = c in
-    row_tiles (from (goal.at.After-quad_at-q c).Start) c.quad_at-q.result (cubes_in (goal.at.After-quad_at-q c).Start) (base (goal.at.After-quad_at-q c).Start) (s.args.sizes.nx - 1) ≡ whole (goal.at.After-quad_at-q c).Start
+same : (c : goal.After-quad_at-q) → row_tiles (from (goal.at.After-quad_at-q c).Start) c.quad_at-q.result (cubes_in (goal.at.After-quad_at-q c).Start) (base (goal.at.After-quad_at-q c).Start) (c.args.sizes.nx - 1) ≡ whole (goal.at.After-quad_at-q c).Start
 unfolding row_tiles_at
 same c =
-    let s = c in
-    ap (λ (q : Quad). row_tiles (from (goal.at.After-quad_at-q c).Start) q (cubes_in (goal.at.After-quad_at-q c).Start) (base (goal.at.After-quad_at-q c).Start) (s.args.sizes.nx - 1)) c.quad_at-q.ensures
+    ap (λ (q : Quad). row_tiles (from (goal.at.After-quad_at-q c).Start) q (cubes_in (goal.at.After-quad_at-q c).Start) (base (goal.at.After-quad_at-q c).Start) (c.args.sizes.nx - 1)) c.quad_at-q.ensures
 
 pub overflow_mul-r : goal.overflow_mul-r
 overflow_mul-r c = omega (arith, few (goal.at.overflow_mul-r c).Start)

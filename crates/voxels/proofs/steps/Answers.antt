@@ -14,12 +14,10 @@ cut : (c : goal.After-at_most)
     → let a = c.args in
     Plainly c.at_most.result (held a.d a.scale)
 cut c =
-    let sized = c in
-    let s = sized in
-    let n = s.args.scale in
-    let e : c.at_most.result ≡ stepped s.args.d n =
-    c.at_most.ensures ∙ ap (λ (y : Float). at_most (mul binary32 y (of_int binary32 (pos n)))) sized.size_of-size.ensures in
-    subst (λ (y : Float). Plainly y (held s.args.d n)) (sym e) (stepped_is n s.requires.0 s.args.d s.requires.1 s.requires.2)
+    let n = c.args.scale in
+    let e : c.at_most.result ≡ stepped c.args.d n =
+    c.at_most.ensures ∙ ap (λ (y : Float). at_most (mul binary32 y (of_int binary32 (pos n)))) c.size_of-size.ensures in
+    subst (λ (y : Float). Plainly y (held c.args.d n)) (sym e) (stepped_is n c.requires.0 c.args.d c.requires.1 c.requires.2)
 
 pub int_to_float-scale : goal.int_to_float-scale
 int_to_float-scale c =

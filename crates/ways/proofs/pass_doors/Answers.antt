@@ -18,15 +18,13 @@ abbrev after : goal.At-loop-k → Flow
 after c = flow c.loop-k.due c.loop-k.waiting c.loop-k.h
 
 -- what the turns so far have kept
-kept : (c : goal.At-loop-k) → let s = c in
-    let z = s.args.z in
+kept : (c : goal.At-loop-k) → let z = c.args.z in
     Kept (words z) (rows_of z) (is_row z) c.loop-k.k (before (goal.at.At-loop-k c).Start) (after c)
 kept c =
-    let s = c in
-    let a = s.args in
+    let a = c.args in
     sends_kept_of (words a.z) (rows_of a.z) (is_row a.z) a.vis.now (door_by a.z a.may.now a.q a.r)
     (beside_by a.z a.q a.r) a.f c.loop-k.k (before (goal.at.At-loop-k c).Start) c.loop-k.invariant.1
-    (λ j _. let b = row_on a.z a.q a.r j s.requires.sized.1 in (row_lt a.z _ b, row_test a.z _ b)) s.requires.roomy
+    (λ j _. let b = row_on a.z a.q a.r j c.requires.sized.1 in (row_lt a.z _ b, row_test a.z _ b)) c.requires.roomy
 
 pub loop-k-init : goal.loop-k-init
 unfolding sends

@@ -11,7 +11,7 @@ use Rattle.ways.proofs.wait_row.Goals.{Else-old-ne0, Start}
 abbrev before : goal.Start → Flow
 before s = flow s.args.due.now s.args.waiting.now s.args.h
 
-room : (c : goal.Else-old-ne0) → let s = c in s.args.h < length s.args.waiting.now
+room : (c : goal.Else-old-ne0) → c.args.h < length c.args.waiting.now
 room c = c.requires.2 c.if-old-ne0.false
 
 pub returns-then-f-eq0 : goal.returns-then-f-eq0
