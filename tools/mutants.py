@@ -9,18 +9,18 @@ that only the text of another proof refuses is seen.
 Prints a line for each change that is not refused so: 'proof' with the file whose proof refuses it, 'neutral' with the reason that
 tools/neutral.txt gives (a line each: FILE<tab>DEFINITION<tab>OLD<tab>NEW<tab>why), else 'SURVIVES'. Exit status 1 where one survives."""
 import argparse
+import atexit
 import os
 import re
 import shutil
 import subprocess
 import sys
+import tempfile
 from concurrent.futures import ThreadPoolExecutor
 from queue import Queue
 
 ROOT = os.path.dirname(os.path.dirname(os.path.abspath(__file__)))
 CRATES = ['paper', 'lists', 'pairing', 'lister', 'acceptance']
-# what rt keeps of crates that are proved, below target/
-PROVED = ['rlib', 'stamp', 'log']
 # the proofs of paper that are facts about definitions, and not steps on the way to other proofs
 FACTS = ['Cases', 'Worked', 'Pins', 'Ints', 'Numbers', 'Tables', 'Visits', 'Steps', 'Edges', 'Crossing', 'Records', 'Listing', 'Limits']
 
@@ -29,11 +29,12 @@ SWAPS = {
     'true': 'false', 'false': 'true', 'take': 'drop', 'drop': 'take', 'min': 'max', '/': '*', '%': '/',
     '.x': '.y', '.y': '.z', '.z': '.x', '.nx': '.ny', '.ny': '.nz', '.nz': '.nx', '.a': '.b', '.b': '.c', '.c': '.a', '.d': '.a',
     'LBN': 'RBN', 'RBN': 'LTN', 'LTN': 'LBF', 'RTN': 'RBF', 'LBF': 'RBN', 'RBF': 'LTF', 'LTF': 'RTF', 'RTF': 'RTN',
-    'firstEnd': 'secondEnd', 'secondEnd': 'firstEnd', 'fileV': 'fileT', 'fileT': 'fileV', 'vertexRoom': None, 'needed': 'neededSlots',
-    'neededSlots': 'needed', 'samples': 'cubes', 'cubes': 'samples', 'sampleNo': 'cubeNo', 'cubeNo': 'sampleNo', 'sampleAt': 'cubeAt',
-    'cubeAt': 'sampleAt', 'words': 'slots', 'waiting': 'words', 'pos': None, 'isIn': None, 'not': None, 'airAt': None,
+    'first_end': 'second_end', 'second_end': 'first_end', 'file_v': 'file_t', 'file_t': 'file_v', 'vertex_room': None,
+    'needed': 'needed_slots', 'needed_slots': 'needed', 'samples': 'cubes', 'cubes': 'samples', 'sample_no': 'cube_no',
+    'cube_no': 'sample_no', 'sample_at': 'cube_at', 'cube_at': 'sample_at', 'words': 'slots', 'waiting': 'words', 'pos': None,
+    'is_in': None, 'not': None, 'air_at': None,
 }
-TOKEN = re.compile(r"\d+|\.[a-z]+|[A-Za-z][A-Za-z0-9']*|&&|\|\||\+\+|[-+*/%]")
+TOKEN = re.compile(r"\d+|\.[a-z_]+|[A-Za-z][A-Za-z0-9_']*|&&|\|\||\+\+|[-+*/%]")
 
 
 def definitions(text):
@@ -45,7 +46,7 @@ def definitions(text):
         opened = depth if line.lstrip().startswith('unfolding') else opened if opened is not None and depth > opened else None
         if opened is not None or re.match(r'\s*(--|use |pub mod|module )', line) or not line.strip():
             continue
-        head = re.match(r'\s*(?:unfoldable |abbrev )?(?:pub )?(?:record )?([A-Za-z0-9]+)( :|\s)', line)
+        head = re.match(r'\s*(?:unfoldable |abbrev )?(?:pub )?(?:record )?([A-Za-z0-9_]+)( :|\s)', line)
         declared = re.match(r'\s*(unfoldable |abbrev |pub |data )', line)
         if re.match(r'worked', line):
             # a worked value, up to the next definition
@@ -79,28 +80,23 @@ def changes(path):
                 yield number, token.start(), old, SWAPS[old], name
 
 
-def place(number):
-    """A copy of the repository for one worker."""
-    here = os.path.join(ROOT, 'target', 'mutants', str(number))
-    shutil.rmtree(here, ignore_errors=True)
+def place(room, number):
+    """A copy of the repository for one worker, without what rt keeps: a check there begins with what the checks of other checkouts kept."""
+    here = os.path.join(room, str(number))
     os.makedirs(here)
-    for entry in ('crates', 'crates.txt'):
-        source = os.path.join(ROOT, entry)
-        (shutil.copytree if os.path.isdir(source) else shutil.copy)(source, os.path.join(here, entry))
-    for folder in os.listdir(os.path.join(here, 'crates')):
-        shutil.rmtree(os.path.join(here, 'crates', folder, 'must-fail'), ignore_errors=True)
+    shutil.copytree(os.path.join(ROOT, 'crates'), os.path.join(here, 'crates'), ignore=shutil.ignore_patterns('out', 'must-fail'))
+    shutil.copy(os.path.join(ROOT, 'crates.txt'), here)
     subprocess.run(['git', 'init', '-q', here], check=True)
-    for entry in PROVED:
-        shutil.copytree(os.path.join(ROOT, 'target', entry), os.path.join(here, 'target', entry), symlinks=True)
     return here
 
 
 def refusal(here, crate):
     """Where the first error of a crate's check stands, or None where it is proved."""
-    run = subprocess.run(['rt', 'check', crate], cwd=here, stdout=subprocess.PIPE, stderr=subprocess.STDOUT, text=True)
+    folder = os.path.join(here, 'crates', crate)
+    run = subprocess.run(['rt', 'check'], cwd=folder, stdout=subprocess.PIPE, stderr=subprocess.STDOUT, text=True)
     if run.returncode == 0:
         return None
-    first = re.search(r'crates/(\S+?):\d+:\d+: error', run.stdout)
+    first = re.search(r'^(?:\./)?(\S+?):\d+:\d+: error', run.stdout, re.M) or re.search(r'^note: (\S+?):\d+:\d+: it is not proved', run.stdout, re.M)
     return first.group(1) if first else 'no place'
 
 
@@ -166,8 +162,11 @@ def main():
         todo = [todo[i * len(todo) // args.most] for i in range(args.most)]
     print(f'{len(todo)} changes', flush=True)
     known, places = neutral(), Queue()
+    # outside the repository, in which rt ci takes no other crates.txt
+    room = tempfile.mkdtemp(prefix='mutants-')
+    atexit.register(shutil.rmtree, room, ignore_errors=True)
     for number in range(args.jobs):
-        places.put(place(number))
+        places.put(place(room, number))
 
     def judge(task):
         crate, file, change = task

@@ -113,7 +113,8 @@ pub fn listing(rt: &impl Print, input: &[u8]) -> io::Result<()> {
     triangles(rt, &ts, r.triangles)
 }
 
-// Standard input, up to its end or to as many bytes as there is room for: how many bytes it put at the front of the room.
+// Standard input, up to its end or to as many bytes as there is room for: how many bytes it put at the front of the room. Where a read
+// fails, the front of the room holds what was read before.
 pub fn read_input(rt: &impl Input, room: &mut [u8]) -> io::Result<usize>
     ensures { IfOk result (λ n. n ≤ length room.new) }
 {

@@ -12,7 +12,7 @@ fits g c =
     subst (λ (r : Built). Fits r 4000 6000) (sym e) (listing_fits _ (ap (λ (r : Built). r.number) (sym e) ∙ c.if-r-ne0.false))
 
 pub vertices-requires : goal.vertices-requires
-vertices-requires g c = omega (arith, (fits g (goal.at.vertices-requires g c).Else-r-ne0).vertices, c.list-r.auto.vertices)
+vertices-requires g c = omega (arith, (fits g (goal.at.vertices-requires g c).Else-r-ne0).vertices)
 
 pub triangles-requires : goal.triangles-requires
-triangles-requires g c = omega (arith, (fits g (goal.at.triangles-requires g c).Else-r-ne0).triangles, c.list-r.auto.triangles)
+triangles-requires g c = omega (arith, (fits g (goal.at.triangles-requires g c).Else-r-ne0).triangles)

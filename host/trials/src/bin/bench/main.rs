@@ -135,7 +135,7 @@ fn main() -> ExitCode {
     println!("but where an axis is named. Times of second.c are of its build. Least of {repeats} repeats ({FEW} of the second");
     println!("mesher of the trials), all calls interleaved in one run; all buffers were cleared before each call.");
     if abi::OWN {
-        println!("The library's module was compiled for this processor.");
+        println!("The library was compiled for this processor.");
     }
     if abi::EMULATED {
         println!(
