@@ -210,7 +210,7 @@ pub fn convert(level: Level, scale: u32, mut voxels: &[f32], mut samples: &mut [
 pub fn pieces(sizes: Sizes, mut samples: &[i16], mut list: &mut [u32], mut work: Work) -> Found {
     let Sizes { nx, ny, nz } = sizes;
     let [number, pieces, ..] = call(
-        [7, nx, ny, nz, 0, 0, 0, 0, 0],
+        [7, nx, ny, nz, 0, 0, 0, 0],
         &mut [&mut samples, &mut list, &mut work.words, &mut work.waiting, &mut work.slots],
     );
     Found { number, pieces }
