@@ -78,8 +78,8 @@ module _ (L : Lattice) (rows vis : List ℕ) (c : Counts) (counts : Counted L.si
   fits n vertices triangles e z =
       let r = room_tests_law c.vertices c.triangles (vertices / 4) (triangles / 3) (sym e ∙ z) in
       record {
-        vertex_room_law = λ k s. omega (arith, r.0, counts.vertices build_rule L.values k s.sides s.cubes);
-        triangle_room_law = λ k s. omega (arith, r.1, counts.triangles build_rule L.values k s.sides s.cubes);
+        vertices_fit = λ k s. omega (arith, r.0, counts.vertices build_rule L.values k s.sides s.cubes);
+        triangles_fit = λ k s. omega (arith, r.1, counts.triangles build_rule L.values k s.sides s.cubes);
       }
 
   -- ── the answer, and what is left ──

@@ -23,8 +23,8 @@ pub record Written (S : Sheet) (number : ℕ) (before after : Output) : Type 0 w
 
 -- of the sheet of any start from which these are the visited cubes: it has room
 pub record Fits (L : Lattice) (rows vis : List ℕ) (vertices triangles : ℕ) : Type 0 where
-  pub vertex_room_law : (k : ℕ) → Stands L k rows vis → 4 * length (sheet_of build_rule L k).edges ≤ vertices
-  pub triangle_room_law : (k : ℕ) → Stands L k rows vis → 3 * length (sheet_of build_rule L k).triangles ≤ triangles
+  pub vertices_fit : (k : ℕ) → Stands L k rows vis → 4 * length (sheet_of build_rule L k).edges ≤ vertices
+  pub triangles_fit : (k : ℕ) → Stands L k rows vis → 3 * length (sheet_of build_rule L k).triangles ≤ triangles
 
 -- and is written
 pub record Puts (L : Lattice) (rows vis : List ℕ) (number : ℕ) (before after : Output) : Type 0 where

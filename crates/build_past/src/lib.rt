@@ -27,10 +27,10 @@ pub fn build_from(
     requires { let L = lattice sizes samples.now in
         Full L × HasBoth L rows.now may.now × (k < cubes sizes) × T (crossed L k)
         × Roomy sizes (lengths (work words.old waiting.old slots.old)) }
-    ensures { let work-before = work words.old waiting.old slots.old in
-        let work-after = work words.new waiting.new slots.new in
-        let before = lent vertices.old triangles.old work-before in
-        let after = lent vertices.new triangles.new work-after in
+    ensures { let work_before = work words.old waiting.old slots.old in
+        let work_after = work words.new waiting.new slots.new in
+        let before = lent vertices.old triangles.old work_before in
+        let after = lent vertices.new triangles.new work_after in
         BuildsFrom (lattice sizes samples.now) k before result after }
 {
     let mut vis = [0u64; 4096];

@@ -18,10 +18,10 @@ pub fn build(
     waiting: &mut [u32],
     slots: &mut [u32],
 ) -> Built
-    ensures { let work-before = work words.old waiting.old slots.old in
-        let work-after = work words.new waiting.new slots.new in
-        let before = lent vertices.old triangles.old work-before in
-        let after = lent vertices.new triangles.new work-after in
+    ensures { let work_before = work words.old waiting.old slots.old in
+        let work_after = work words.new waiting.new slots.new in
+        let before = lent vertices.old triangles.old work_before in
+        let after = lent vertices.new triangles.new work_after in
         Builds (lattice sizes samples.now) start before result after }
 {
     let mut rows = [0u64; 4096];

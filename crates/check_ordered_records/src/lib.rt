@@ -46,7 +46,7 @@ fn same_records(
     ensures { let L = lattice sizes samples.now in
         let fs = file_vertices bytes.now in
         let wide = 7 * sizes.nx in
-        let ks = ks.entry.now in
+        let ks = ks.now in
         let before = slots.old in
         let after = slots.new in
         (result ≡ true → length (kept ks wide) ≤ n → Entered rule L ks fs (7 * here) wide at n before after)

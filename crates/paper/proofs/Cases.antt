@@ -187,8 +187,8 @@ pub record Row : Type 0 where
   pub case : Case
   pub is : List ℕ
 
-abbrev pub row_of_law : Case → List ℕ → Row
-row_of_law c l = record { case = c; is = l }
+abbrev pub table_row : Case → List ℕ → Row
+table_row c l = record { case = c; is = l }
 
 -- −1, solid, and 1, air
 abbrev pub o : ℤ

@@ -121,8 +121,8 @@ module _ (L : Lattice) (s : Start) (l : Lent) where
   abbrev first_tests : List Test
   first_tests = sample_tests L s (lengths l.work)
 
-  abbrev last_tests_law : List Test
-  last_tests_law = room_tests (length S.edges) (length S.triangles) (vertex_room l.vertices) (triangle_room l.triangles)
+  abbrev late_tests : List Test
+  late_tests = room_tests (length S.edges) (length S.triangles) (vertex_room l.vertices) (triangle_room l.triangles)
 
   pub built_number : (built L s l).number ≡ build_number L s l
   unfolding built
@@ -151,9 +151,9 @@ module _ (L : Lattice) (s : Start) (l : Lent) where
       let v = vertex_room l.vertices in
       let t = triangle_room l.triangles in
       room_passed f g v t
-      (passed_both first_tests last_tests_law
-      (judge_all (first_tests ++ last_tests_law)
-      (numbered_both first_tests last_tests_law (sample_numbered L s (lengths l.work)) (room_numbered f g v t))
+      (passed_both first_tests late_tests
+      (judge_all (first_tests ++ late_tests)
+      (numbered_both first_tests late_tests (sample_numbered L s (lengths l.work)) (room_numbered f g v t))
       (sym built_number ∙ e))).1
 
 -- an answer knows only how much room there is

@@ -117,8 +117,8 @@ module _ (S : Sheet) (vs : List ℤ) (ts : List ℕ) (nv nt : ℕ) where
     pub vertices : (e : ℕ) → In e S.edges → (i : ℕ) × (i < nv) × (edge_of vs i ≡ pos e)
     pub triangles : (t : Tri) → In t S.by_edge → (i : ℕ) × (i < nt) × T (turned t (triangle_of vs ts i))
 
-  abbrev has_edge_law : ℕ → Bool
-  has_edge_law e = any (λ i. same_number (edge_of vs i) (pos e)) (range 0 nv)
+  abbrev is_edge : ℕ → Bool
+  is_edge e = any (λ i. same_number (edge_of vs i) (pos e)) (range 0 nv)
 
   abbrev has_triangle : Tri → Bool
   has_triangle t = any (λ i. turned t (triangle_of vs ts i)) (range 0 nt)
@@ -126,11 +126,11 @@ module _ (S : Sheet) (vs : List ℤ) (ts : List ℕ) (nv nt : ℕ) where
   pub whole : complete S vs ts nv nt ≡ true → Whole
   unfolding complete
   whole e =
-      let a = all has_edge_law S.edges in
+      let a = all is_edge S.edges in
       let b = all has_triangle S.by_edge in
       record {
         vertices = λ k i.
-            let w = any_member (λ i. same_number (edge_of vs i) (pos k)) (range 0 nv) (all_in has_edge_law (and_left a b (eq_to_t e)) i) in
+            let w = any_member (λ i. same_number (edge_of vs i) (pos k)) (range 0 nv) (all_in is_edge (and_left a b (eq_to_t e)) i) in
             (w.0, below nv w.0 w.1, same_number_law (edge_of vs w.0) (pos k) w.2);
         triangles = λ t i.
             let w = any_member (λ i. turned t (triangle_of vs ts i)) (range 0 nt) (all_in has_triangle (and_right a b (eq_to_t e)) i) in
@@ -140,11 +140,11 @@ module _ (S : Sheet) (vs : List ℤ) (ts : List ℕ) (nv nt : ℕ) where
   pub whole_back : Whole → complete S vs ts nv nt ≡ true
   unfolding complete
   whole_back w =
-      let a = all has_edge_law S.edges in
+      let a = all is_edge S.edges in
       let b = all has_triangle S.by_edge in
       t_to_eq (a && b)
       (and_both a b
-      (in_all_test has_edge_law S.edges
+      (in_all_test is_edge S.edges
       (λ e i.
       let v = w.vertices e i in
       member_any (λ i. same_number (edge_of vs i) (pos e)) (in_run nv v.0 v.1) (number_same v.2)))

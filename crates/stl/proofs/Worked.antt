@@ -52,8 +52,8 @@ record Row : Type 0 where
   pub case : Case
   pub is : List ℕ
 
-row_of_law : Case → List ℕ → Row
-row_of_law c l = record { case = c; is = l }
+table_row : Case → List ℕ → Row
+table_row c l = record { case = c; is = l }
 
 -- the sheet of the listing in document 01, with a fourth vertex at (x, 4,128,768, 0)
 vertices : ℤ → List ℤ
@@ -79,59 +79,59 @@ two : List ℕ
 two = replicate 80 0 ++ 2 ∷ 0 ∷ 0 ∷ 0 ∷ facet ++ facet
 
 table : List Row
-unfolding vertices triangle facet file two row_of_law
+unfolding vertices triangle facet file two table_row
 table =
     -- 0.75, 63, one unit below, one unit, none
-    row_of_law (gives 49152) (1061158912 ∷ [])
-    ∷ row_of_law (gives 4128768) (1115422720 ∷ [])
-    ∷ row_of_law (gives 4128767) (1115422716 ∷ [])
-    ∷ row_of_law (gives 1) (931135488 ∷ [])
-    ∷ row_of_law (gives 0) (0 ∷ [])
+    table_row (gives 49152) (1061158912 ∷ [])
+    ∷ table_row (gives 4128768) (1115422720 ∷ [])
+    ∷ table_row (gives 4128767) (1115422716 ∷ [])
+    ∷ table_row (gives 1) (931135488 ∷ [])
+    ∷ table_row (gives 0) (0 ∷ [])
     -- and back; minus zero, -0.75, not a number, infinity, 63 and one unit, the float after 63, half a unit
-    ∷ row_of_law (stands 1061158912) (49152 ∷ [])
-    ∷ row_of_law (stands 1115422720) (4128768 ∷ [])
-    ∷ row_of_law (stands 1115422716) (4128767 ∷ [])
-    ∷ row_of_law (stands 931135488) (1 ∷ [])
-    ∷ row_of_law (stands 0) (0 ∷ [])
-    ∷ row_of_law (stands 2147483648) []
-    ∷ row_of_law (stands 3208642560) []
-    ∷ row_of_law (stands 2143289344) []
-    ∷ row_of_law (stands 2139095040) []
-    ∷ row_of_law (stands 1115422724) []
-    ∷ row_of_law (stands 1115422721) []
-    ∷ row_of_law (stands 922746880) []
+    ∷ table_row (stands 1061158912) (49152 ∷ [])
+    ∷ table_row (stands 1115422720) (4128768 ∷ [])
+    ∷ table_row (stands 1115422716) (4128767 ∷ [])
+    ∷ table_row (stands 931135488) (1 ∷ [])
+    ∷ table_row (stands 0) (0 ∷ [])
+    ∷ table_row (stands 2147483648) []
+    ∷ table_row (stands 3208642560) []
+    ∷ table_row (stands 2143289344) []
+    ∷ table_row (stands 2139095040) []
+    ∷ table_row (stands 1115422724) []
+    ∷ table_row (stands 1115422721) []
+    ∷ table_row (stands 922746880) []
     -- writing: the listing's sheet, and a vertex outside that no triangle names
-    ∷ row_of_law (writes 3 1 (vertices (pos 0)) triangle 134) (0 ∷ 0 ∷ 134 ∷ [])
-    ∷ row_of_law (writes 4 1 (vertices (negsuc 0)) triangle 134) (0 ∷ 0 ∷ 134 ∷ [])
-    ∷ row_of_law (writes 4 0 [] [] 84) (9 ∷ 0 ∷ 0 ∷ [])
-    ∷ row_of_law (writes 0 0 [] [] 84) (0 ∷ 0 ∷ 84 ∷ [])
-    ∷ row_of_law (bytes 1 (vertices (pos 0)) triangle) file
+    ∷ table_row (writes 3 1 (vertices (pos 0)) triangle 134) (0 ∷ 0 ∷ 134 ∷ [])
+    ∷ table_row (writes 4 1 (vertices (negsuc 0)) triangle 134) (0 ∷ 0 ∷ 134 ∷ [])
+    ∷ table_row (writes 4 0 [] [] 84) (9 ∷ 0 ∷ 0 ∷ [])
+    ∷ table_row (writes 0 0 [] [] 84) (0 ∷ 0 ∷ 84 ∷ [])
+    ∷ table_row (bytes 1 (vertices (pos 0)) triangle) file
     -- 9, 15, 25, 8 in this order
-    ∷ row_of_law (writes 3 1 (vertices (pos 0)) triangle 133) (8 ∷ 0 ∷ 0 ∷ [])
-    ∷ row_of_law (writes 4 2 (vertices (pos 4128768)) (triangle ++ 0 ∷ 3 ∷ 1 ∷ []) 184) (0 ∷ 0 ∷ 184 ∷ [])
-    ∷ row_of_law (writes 4 2 (vertices (pos 4128769)) (triangle ++ 0 ∷ 3 ∷ 1 ∷ []) 0) (25 ∷ 1 ∷ 0 ∷ [])
-    ∷ row_of_law (writes 4 2 (vertices (negsuc 0)) (triangle ++ 0 ∷ 1 ∷ 3 ∷ []) 0) (25 ∷ 1 ∷ 0 ∷ [])
-    ∷ row_of_law (writes 4 2 (vertices (negsuc 0)) (3 ∷ 1 ∷ 0 ∷ 0 ∷ 1 ∷ 4 ∷ []) 0) (15 ∷ 1 ∷ 0 ∷ [])
-    ∷ row_of_law (writes 3 2 (vertices (pos 0)) (triangle ++ 0 ∷ 1 ∷ 3 ∷ []) 0) (15 ∷ 1 ∷ 0 ∷ [])
-    ∷ row_of_law (writes 5 1 (vertices (pos 0)) (1 ∷ 9 ∷ 0 ∷ []) 0) (9 ∷ 0 ∷ 0 ∷ [])
-    ∷ row_of_law (writes 3 2 (vertices (pos 0)) (1 ∷ 9 ∷ 0 ∷ []) 0) (9 ∷ 0 ∷ 0 ∷ [])
+    ∷ table_row (writes 3 1 (vertices (pos 0)) triangle 133) (8 ∷ 0 ∷ 0 ∷ [])
+    ∷ table_row (writes 4 2 (vertices (pos 4128768)) (triangle ++ 0 ∷ 3 ∷ 1 ∷ []) 184) (0 ∷ 0 ∷ 184 ∷ [])
+    ∷ table_row (writes 4 2 (vertices (pos 4128769)) (triangle ++ 0 ∷ 3 ∷ 1 ∷ []) 0) (25 ∷ 1 ∷ 0 ∷ [])
+    ∷ table_row (writes 4 2 (vertices (negsuc 0)) (triangle ++ 0 ∷ 1 ∷ 3 ∷ []) 0) (25 ∷ 1 ∷ 0 ∷ [])
+    ∷ table_row (writes 4 2 (vertices (negsuc 0)) (3 ∷ 1 ∷ 0 ∷ 0 ∷ 1 ∷ 4 ∷ []) 0) (15 ∷ 1 ∷ 0 ∷ [])
+    ∷ table_row (writes 3 2 (vertices (pos 0)) (triangle ++ 0 ∷ 1 ∷ 3 ∷ []) 0) (15 ∷ 1 ∷ 0 ∷ [])
+    ∷ table_row (writes 5 1 (vertices (pos 0)) (1 ∷ 9 ∷ 0 ∷ []) 0) (9 ∷ 0 ∷ 0 ∷ [])
+    ∷ table_row (writes 3 2 (vertices (pos 0)) (1 ∷ 9 ∷ 0 ∷ []) 0) (9 ∷ 0 ∷ 0 ∷ [])
     -- reading, in the sheet's order; header, normal and attribute are ignored
-    ∷ row_of_law (rereads file) (0 ∷ 49152 ∷ 0 ∷ 0 ∷ 0 ∷ 49152 ∷ 49152 ∷ 0 ∷ 0 ∷ [])
-    ∷ row_of_law (reads file 9) (0 ∷ 0 ∷ 1 ∷ [])
-    ∷ row_of_law (reads (set (set (set file 79 255) 84 7) 133 1) 9) (0 ∷ 0 ∷ 1 ∷ [])
-    ∷ row_of_law (reads (replicate 84 0) 0) (0 ∷ 0 ∷ 0 ∷ [])
+    ∷ table_row (rereads file) (0 ∷ 49152 ∷ 0 ∷ 0 ∷ 0 ∷ 49152 ∷ 49152 ∷ 0 ∷ 0 ∷ [])
+    ∷ table_row (reads file 9) (0 ∷ 0 ∷ 1 ∷ [])
+    ∷ table_row (reads (set (set (set file 79 255) 84 7) 133 1) 9) (0 ∷ 0 ∷ 1 ∷ [])
+    ∷ table_row (reads (replicate 84 0) 0) (0 ∷ 0 ∷ 0 ∷ [])
     -- 14, 25, 7 in this order
-    ∷ row_of_law (reads file 8) (7 ∷ 0 ∷ 0 ∷ [])
-    ∷ row_of_law (reads two 18) (0 ∷ 0 ∷ 2 ∷ [])
-    ∷ row_of_law (reads (set two 161 128) 0) (25 ∷ 1 ∷ 0 ∷ [])
-    ∷ row_of_law (reads (set file 99 128) 0) (25 ∷ 0 ∷ 0 ∷ [])
-    ∷ row_of_law (reads (set (set file 80 2) 99 128) 0) (14 ∷ 0 ∷ 0 ∷ [])
-    ∷ row_of_law (reads (take 133 file) 9) (14 ∷ 0 ∷ 0 ∷ [])
-    ∷ row_of_law (reads (file ++ 0 ∷ []) 9) (14 ∷ 0 ∷ 0 ∷ [])
-    ∷ row_of_law (reads (replicate 83 0) 9) (14 ∷ 0 ∷ 0 ∷ [])
-    ∷ row_of_law (reads [] 9) (14 ∷ 0 ∷ 0 ∷ [])
+    ∷ table_row (reads file 8) (7 ∷ 0 ∷ 0 ∷ [])
+    ∷ table_row (reads two 18) (0 ∷ 0 ∷ 2 ∷ [])
+    ∷ table_row (reads (set two 161 128) 0) (25 ∷ 1 ∷ 0 ∷ [])
+    ∷ table_row (reads (set file 99 128) 0) (25 ∷ 0 ∷ 0 ∷ [])
+    ∷ table_row (reads (set (set file 80 2) 99 128) 0) (14 ∷ 0 ∷ 0 ∷ [])
+    ∷ table_row (reads (take 133 file) 9) (14 ∷ 0 ∷ 0 ∷ [])
+    ∷ table_row (reads (file ++ 0 ∷ []) 9) (14 ∷ 0 ∷ 0 ∷ [])
+    ∷ table_row (reads (replicate 83 0) 9) (14 ∷ 0 ∷ 0 ∷ [])
+    ∷ table_row (reads [] 9) (14 ∷ 0 ∷ 0 ∷ [])
     ∷ []
 
 worked : map (λ r. outcome r.case) table ≡ map (λ r. r.is) table
-unfolding outcome table vertices triangle facet file two row_of_law
+unfolding outcome table vertices triangle facet file two table_row
 worked = refl

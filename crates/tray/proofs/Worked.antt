@@ -80,31 +80,31 @@ two = airs 5 2 2 (0 ∷ 4 ∷ [])
 later : Lattice
 later = airs 5 3 2 (3 ∷ 10 ∷ [])
 
-row_of_law : Lattice → Lent → List ℕ → List ℕ → List ℕ → Row
-row_of_law L l a ls w = record { given = L; room = l; answer = a; list = ls; work = w }
+table_row : Lattice → Lent → List ℕ → List ℕ → List ℕ → Row
+table_row L l a ls w = record { given = L; room = l; answer = a; list = ls; work = w }
 
 table : List Row
-unfolding airs sevens two later row_of_law
+unfolding airs sevens two later table_row
 table =
-    row_of_law two (sevens 3 4 5 141) (0 ∷ 2 ∷ []) (0 ∷ 3 ∷ 7 ∷ []) (0 ∷ 0 ∷ 0 ∷ 0 ∷ 0 ∷ 0 ∷ 0 ∷ 0 ∷ 7 ∷ 0 ∷ 7 ∷ [])
-    ∷ row_of_law two (sevens 2 4 4 140) (0 ∷ 2 ∷ []) (0 ∷ 3 ∷ []) (0 ∷ 0 ∷ 0 ∷ 0 ∷ 0 ∷ 0 ∷ 0 ∷ 0 ∷ 0 ∷ 0 ∷ [])
-    ∷ row_of_law two (sevens 1 5 4 141) (20 ∷ 2 ∷ []) (7 ∷ []) (0 ∷ 0 ∷ 0 ∷ 0 ∷ 7 ∷ 0 ∷ 0 ∷ 0 ∷ 0 ∷ 0 ∷ 7 ∷ [])
-    ∷ row_of_law two (sevens 3 3 4 140) (3 ∷ 0 ∷ []) (7 ∷ 7 ∷ 7 ∷ []) (7 ∷ 7 ∷ 7 ∷ 7 ∷ 7 ∷ 7 ∷ 7 ∷ 7 ∷ 7 ∷ [])
-    ∷ row_of_law two (sevens 3 4 4 139) (3 ∷ 0 ∷ []) (7 ∷ 7 ∷ 7 ∷ []) (7 ∷ 7 ∷ 7 ∷ 7 ∷ 7 ∷ 7 ∷ 7 ∷ 7 ∷ 7 ∷ 7 ∷ [])
-    ∷ row_of_law (airs 2 2 2 []) (sevens 1 1 1 56) (5 ∷ 0 ∷ []) (7 ∷ []) (7 ∷ 7 ∷ 7 ∷ 7 ∷ [])
-    ∷ row_of_law (airs 2 2 2 (range 0 8)) (sevens 0 1 1 56) (5 ∷ 0 ∷ []) [] (7 ∷ 7 ∷ 7 ∷ 7 ∷ [])
-    ∷ row_of_law (lat 2 2 2 (replicate 9 (pos 0))) (sevens 0 0 1 2) (2 ∷ 0 ∷ []) [] (7 ∷ 7 ∷ 7 ∷ [])
-    ∷ row_of_law (lat 2 1 2 (replicate 9 (pos 0))) (sevens 0 0 1 2) (1 ∷ 0 ∷ []) [] (7 ∷ 7 ∷ 7 ∷ [])
-    ∷ row_of_law (airs 2 2 2 (3 ∷ [])) (sevens 0 1 1 56) (20 ∷ 1 ∷ []) [] (0 ∷ 0 ∷ 0 ∷ 0 ∷ [])
-    ∷ row_of_law later (sevens 2 8 8 210) (0 ∷ 2 ∷ []) (2 ∷ 4 ∷ []) (replicate 18 0)
-    ∷ row_of_law (airs 6 4 4 (0 ∷ 64 ∷ [])) (sevens 2 45 45 672) (0 ∷ 2 ∷ []) (0 ∷ 23 ∷ []) (replicate 92 0)
-    ∷ row_of_law (airs 5 5 5 (31 ∷ 93 ∷ [])) (sevens 2 64 64 875) (0 ∷ 2 ∷ []) (0 ∷ 42 ∷ []) (replicate 130 0)
-    ∷ row_of_law (airs 5 5 5 (31 ∷ 62 ∷ 93 ∷ [])) (sevens 1 64 64 875) (0 ∷ 1 ∷ []) (0 ∷ []) (replicate 130 0)
-    ∷ row_of_law parted (sevens 3 4 4 126) (0 ∷ 2 ∷ []) (1 ∷ 2 ∷ 7 ∷ []) (replicate 10 0)
-    ∷ row_of_law parted (sevens 1 4 4 126) (20 ∷ 2 ∷ []) (7 ∷ []) (replicate 10 0)
-    ∷ row_of_law corner_fill (sevens 1 8 8 189) (0 ∷ 1 ∷ []) (1 ∷ []) (replicate 18 0)
-    ∷ row_of_law (filled 0 7) (sevens 1 1 1 56) (5 ∷ 0 ∷ []) (7 ∷ []) (7 ∷ 7 ∷ 7 ∷ 7 ∷ [])
-    ∷ row_of_law (airs 4 4 4 (21 ∷ 42 ∷ [])) (sevens 2 27 27 448) (0 ∷ 1 ∷ []) (0 ∷ 7 ∷ []) (replicate 56 0)
+    table_row two (sevens 3 4 5 141) (0 ∷ 2 ∷ []) (0 ∷ 3 ∷ 7 ∷ []) (0 ∷ 0 ∷ 0 ∷ 0 ∷ 0 ∷ 0 ∷ 0 ∷ 0 ∷ 7 ∷ 0 ∷ 7 ∷ [])
+    ∷ table_row two (sevens 2 4 4 140) (0 ∷ 2 ∷ []) (0 ∷ 3 ∷ []) (0 ∷ 0 ∷ 0 ∷ 0 ∷ 0 ∷ 0 ∷ 0 ∷ 0 ∷ 0 ∷ 0 ∷ [])
+    ∷ table_row two (sevens 1 5 4 141) (20 ∷ 2 ∷ []) (7 ∷ []) (0 ∷ 0 ∷ 0 ∷ 0 ∷ 7 ∷ 0 ∷ 0 ∷ 0 ∷ 0 ∷ 0 ∷ 7 ∷ [])
+    ∷ table_row two (sevens 3 3 4 140) (3 ∷ 0 ∷ []) (7 ∷ 7 ∷ 7 ∷ []) (7 ∷ 7 ∷ 7 ∷ 7 ∷ 7 ∷ 7 ∷ 7 ∷ 7 ∷ 7 ∷ [])
+    ∷ table_row two (sevens 3 4 4 139) (3 ∷ 0 ∷ []) (7 ∷ 7 ∷ 7 ∷ []) (7 ∷ 7 ∷ 7 ∷ 7 ∷ 7 ∷ 7 ∷ 7 ∷ 7 ∷ 7 ∷ 7 ∷ [])
+    ∷ table_row (airs 2 2 2 []) (sevens 1 1 1 56) (5 ∷ 0 ∷ []) (7 ∷ []) (7 ∷ 7 ∷ 7 ∷ 7 ∷ [])
+    ∷ table_row (airs 2 2 2 (range 0 8)) (sevens 0 1 1 56) (5 ∷ 0 ∷ []) [] (7 ∷ 7 ∷ 7 ∷ 7 ∷ [])
+    ∷ table_row (lat 2 2 2 (replicate 9 (pos 0))) (sevens 0 0 1 2) (2 ∷ 0 ∷ []) [] (7 ∷ 7 ∷ 7 ∷ [])
+    ∷ table_row (lat 2 1 2 (replicate 9 (pos 0))) (sevens 0 0 1 2) (1 ∷ 0 ∷ []) [] (7 ∷ 7 ∷ 7 ∷ [])
+    ∷ table_row (airs 2 2 2 (3 ∷ [])) (sevens 0 1 1 56) (20 ∷ 1 ∷ []) [] (0 ∷ 0 ∷ 0 ∷ 0 ∷ [])
+    ∷ table_row later (sevens 2 8 8 210) (0 ∷ 2 ∷ []) (2 ∷ 4 ∷ []) (replicate 18 0)
+    ∷ table_row (airs 6 4 4 (0 ∷ 64 ∷ [])) (sevens 2 45 45 672) (0 ∷ 2 ∷ []) (0 ∷ 23 ∷ []) (replicate 92 0)
+    ∷ table_row (airs 5 5 5 (31 ∷ 93 ∷ [])) (sevens 2 64 64 875) (0 ∷ 2 ∷ []) (0 ∷ 42 ∷ []) (replicate 130 0)
+    ∷ table_row (airs 5 5 5 (31 ∷ 62 ∷ 93 ∷ [])) (sevens 1 64 64 875) (0 ∷ 1 ∷ []) (0 ∷ []) (replicate 130 0)
+    ∷ table_row parted (sevens 3 4 4 126) (0 ∷ 2 ∷ []) (1 ∷ 2 ∷ 7 ∷ []) (replicate 10 0)
+    ∷ table_row parted (sevens 1 4 4 126) (20 ∷ 2 ∷ []) (7 ∷ []) (replicate 10 0)
+    ∷ table_row corner_fill (sevens 1 8 8 189) (0 ∷ 1 ∷ []) (1 ∷ []) (replicate 18 0)
+    ∷ table_row (filled 0 7) (sevens 1 1 1 56) (5 ∷ 0 ∷ []) (7 ∷ []) (7 ∷ 7 ∷ 7 ∷ 7 ∷ [])
+    ∷ table_row (airs 4 4 4 (21 ∷ 42 ∷ [])) (sevens 2 27 27 448) (0 ∷ 1 ∷ []) (0 ∷ 7 ∷ []) (replicate 56 0)
     ∷ []
 
 computed : map scanning table ≡ map is table

@@ -30,7 +30,7 @@ put_vertices-requires c =
       full = (p.0, c.requires.nz_in_bounds.1);
       nz_in_bounds = (at.sides.long, c.requires.nz_in_bounds.0);
       crossed = crossed (L (goal.at.put_vertices-requires c).Start) p.0 _ _ p.1.start at;
-      vis_in_bounds = omega (arith, room.vertex_room_law p.1.start at, edges_length (L (goal.at.put_vertices-requires c).Start) p.0 _ _ p.1.start at);
+      vis_in_bounds = omega (arith, room.vertices_fit p.1.start at, edges_length (L (goal.at.put_vertices-requires c).Start) p.0 _ _ p.1.start at);
     }
 
 pub put_triangles-requires : goal.put_triangles-requires
@@ -39,7 +39,7 @@ put_triangles-requires c =
     let p = c.requires.full in
     let at = p.1.stands in
     let made = c.pattern_table.ensures in
-    let room = (c.requires.fact c.if-number-ne0.false).triangle_room_law p.1.start at in
+    let room = (c.requires.fact c.if-number-ne0.false).triangles_fit p.1.start at in
     let long = triangles_length (L (goal.at.put_triangles-requires c).Start) p.0 _ _ p.1.start at c.args.slots.now c.requires.nz_in_bounds.1 _ _ made _ d.slots in record {
       sized = (p.0.sized, made, omega (arith, c.requires.nz_in_bounds.1, c.put_vertices.auto));
       fact = (at.sides.long, c.requires.nz_in_bounds.0);
@@ -57,7 +57,7 @@ returns c =
       record {
         written = λ k h.
             record {
-              vertices = rw (eq-eqb _ 0 c.if-number-ne0.false) (d.vertices ∙ vertices_are (L (goal.at.returns c).Start) p.0 _ _ k h _ (fits.vertex_room_law k h));
+              vertices = rw (eq-eqb _ 0 c.if-number-ne0.false) (d.vertices ∙ vertices_are (L (goal.at.returns c).Start) p.0 _ _ k h _ (fits.vertices_fit k h));
               triangles =
                   rw (eq-eqb _ 0 c.if-number-ne0.false)
                   (c.put_triangles.ensures
