@@ -14,6 +14,7 @@ use paper::{Rule, Sizes};
 use tally::Counts;
 
 // Tests 6 and 7, for counts and the lengths of the lent output: the number of the first that fails, or 0.
+#[tactic(auto, unfolding(paper::specs::Room::room_tests))]
 pub fn room_number(c: Counts, vertices: usize, triangles: usize) -> usize
     ensures { result ≡ (judge (room_tests c.vertices c.triangles (vertices / 4) (triangles / 3))).number }
 {
