@@ -2,34 +2,43 @@
 #![tactic(auto)]
 
 ghost use Rattle.std.specs.Prelude.{◌≡◌, ◌+◌, ◌*◌, ◌/◌, ◌%◌, ◌≤◌, ◌<◌};
-ghost use Rattle.paper.specs.Lattice.{place, axis, axes, samples, sample_no, cubes, cube_no, cube_at};
-ghost use Rattle.paper.specs.Within.{Sized, SampleIn, CubeIn};
+ghost use Rattle.paper.specs.Lattice.{lattice, place, axis, axes, samples, sample_no, cubes, cube_no, cube_at, value_at};
+ghost use Rattle.paper.specs.Within.{Sized, Full, SampleIn, CubeIn};
 
 use paper::{Place, Sizes};
 
+// The samples of a lattice that passes tests 1 and 2.
+#[derive(Clone, Copy)]
+pub struct Volume<'a> {
+    pub sizes: Sizes,
+    pub samples: &'a [i16],
+    pub ghost full: { Full (lattice sizes samples.now) },
+}
+
+impl Volume<'_> {
+    // The sample at a place.
+    pub fn value(&self, p: Place) -> i16
+        requires { SampleIn self.now.sizes p }
+        ensures { result ≡ value_at (lattice self.now.sizes self.now.samples.now) p }
+    {
+        self.samples[sample_no(self.sizes, p)]
+    }
+}
+
 // "An axis has 2 to 64 samples."
+#[tactic(auto, unfolding(paper::specs::Lattice::axis))]
 fn axis_passes(n: usize) -> bool
     ensures { result ≡ axis n }
 {
-    if n < 2 {
-        return false;
-    }
-    n <= 64
+    2 <= n && n <= 64
 }
 
 // Test 1.
+#[tactic(auto, unfolding(paper::specs::Lattice::axes))]
 pub fn axes_pass(sizes: Sizes) -> bool
     ensures { result ≡ axes sizes }
 {
-    let x = axis_passes(sizes.nx);
-    if !x {
-        return false;
-    }
-    let y = axis_passes(sizes.ny);
-    if !y {
-        return false;
-    }
-    axis_passes(sizes.nz)
+    axis_passes(sizes.nx) && axis_passes(sizes.ny) && axis_passes(sizes.nz)
 }
 
 // How many samples there are.

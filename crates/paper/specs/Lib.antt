@@ -3,6 +3,7 @@ pub mod Lattice
 pub mod Tables
 pub mod Sheet
 pub mod Tests
+pub mod Refused
 pub mod Room
 pub mod Build
 pub mod File

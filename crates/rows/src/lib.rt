@@ -4,11 +4,13 @@
 ghost use Rattle.std.specs.Prelude.{◌≡◌, List, ℤ, ◌+◌, ◌*◌, ◌≤◌, ◌<◌, length, get_or};
 ghost use Rattle.paper.specs.Lattice.{lattice, cube_no, crossed};
 ghost use Rattle.paper.specs.Sheet.{weight};
-ghost use Rattle.paper.specs.Within.{Sized, CubeIn};
+ghost use Rattle.paper.specs.Within.{Sized, Full, CubeIn};
 ghost use Rattle.bits.specs.Words.{bit};
 ghost use Rattle.rows.specs.Rows.{HasBoth, either_of, both_of, mixed_word, quad_at, crossed_row, gate_row, face_row, pattern_in, looked_at};
 
 use paper::{Place, Sizes};
+
+// ── the rows around a row of cubes ──
 
 // The side rows of a row of cubes: at its low y and z, at its high y, at its high z, at both.
 #[derive(Clone, Copy)]
@@ -19,81 +21,12 @@ pub struct Quad {
     pub d: u64,
 }
 
-// The bits that one of the four words has.
-pub fn either(q: Quad) -> u64
-    ensures { result ≡ either_of q }
-{
-    q.a | q.b | q.c | q.d
-}
-
-// The bits that all four words have.
-pub fn both(q: Quad) -> u64
-    ensures { result ≡ both_of q }
-{
-    q.a & q.b & q.c & q.d
-}
-
 // Where the bits at x and x + 1 of some words are not all alike: o has the bits that one of them has, n those that all have.
-pub fn mixed(o: u64, n: u64) -> u64
+#[tactic(auto, unfolding(crate::specs::Rows::mixed_word))]
+fn mixed(o: u64, n: u64) -> u64
     ensures { result ≡ mixed_word o n }
 {
     (o | (o >> 1)) ^ (n & (n >> 1))
-}
-
-// The four words from r on, ny words to a layer.
-pub fn quad_at(rows: &[u64], ny: usize, r: usize) -> Quad
-    requires { r + ny + 1 < length rows.now }
-    ensures { result ≡ quad_at rows.now ny r }
-{
-    let a = rows[r];
-    let b = rows[r + 1];
-    let c = rows[r + ny];
-    let d = rows[r + ny + 1];
-    Quad {
-        a: a,
-        b: b,
-        c: c,
-        d: d,
-    }
-}
-
-// The crossed ones of the cubes m of a row.
-fn crossed_row(q: Quad, m: u64) -> u64
-    ensures { result ≡ crossed_row q m }
-{
-    let o = either(q);
-    let a = both(q);
-    m & mixed(o, a)
-}
-
-// The mixed ones of the faces across x between the cubes m of a row.
-pub fn gate_row(q: Quad, m: u64) -> u64
-    ensures { result ≡ gate_row q m }
-{
-    let o = either(q);
-    let a = both(q);
-    (m & (m << 1)) & (o ^ a)
-}
-
-// The mixed ones of the faces i of a row of cubes: 2 and 3 at the low and the high y end, 4 and 5 at those of z.
-pub fn face_row(q: Quad, i: usize) -> u64
-    requires { (2 ≤ i) × (i < 6) }
-    ensures { result ≡ face_row q i }
-{
-    let a = q.a;
-    let b = q.b;
-    let c = q.c;
-    let d = q.d;
-    if i == 2 {
-        return mixed(a | c, a & c);
-    }
-    if i == 3 {
-        return mixed(b | d, b & d);
-    }
-    if i == 4 {
-        return mixed(a | b, a & b);
-    }
-    mixed(c | d, c & d)
 }
 
 // Bits x and x + 1 of a word.
@@ -104,16 +37,74 @@ fn pair(w: u64, x: usize) -> u64
     (w >> x) % 4
 }
 
-// The pattern of cube x of a row.
-pub fn pattern(q: Quad, x: usize) -> usize
-    requires { x < 64 }
-    ensures { (result ≡ pattern_in q x) × (result < 256) }
-{
-    let a = pair(q.a, x);
-    let b = pair(q.b, x);
-    let c = pair(q.c, x);
-    let d = pair(q.d, x);
-    (a + 4 * b + 16 * c + 64 * d) as usize
+impl Quad {
+    // The four words from r on, ny words to a layer.
+    #[tactic(auto, unfolding(crate::specs::Rows::quad_at))]
+    pub fn at(words: &[u64], ny: usize, r: usize) -> Quad
+        requires { r + ny + 1 < length words.now }
+        ensures { result ≡ quad_at words.now ny r }
+    {
+        Quad {
+            a: words[r],
+            b: words[r + 1],
+            c: words[r + ny],
+            d: words[r + ny + 1],
+        }
+    }
+
+    // The bits that one of the four words has.
+    pub fn either(self) -> u64
+        ensures { result ≡ either_of self }
+    {
+        self.a | self.b | self.c | self.d
+    }
+
+    // The bits that all four words have.
+    pub fn both(self) -> u64
+        ensures { result ≡ both_of self }
+    {
+        self.a & self.b & self.c & self.d
+    }
+
+    // The crossed ones of the cubes m of the row.
+    #[tactic(auto, unfolding(crate::specs::Rows::crossed_row, crate::specs::Rows::mixed_word))]
+    fn crossed(self, m: u64) -> u64
+        ensures { result ≡ crossed_row self m }
+    {
+        m & mixed(self.either(), self.both())
+    }
+
+    // The mixed ones of the faces across x between the cubes m of the row.
+    #[tactic(auto, unfolding(crate::specs::Rows::gate_row))]
+    pub fn gates(self, m: u64) -> u64
+        ensures { result ≡ gate_row self m }
+    {
+        (m & (m << 1)) & (self.either() ^ self.both())
+    }
+
+    // The mixed ones of the faces i of the row: 2 and 3 at the low and the high y end, 4 and 5 at those of z.
+    pub fn faces(self, i: usize) -> u64
+        requires { (2 ≤ i) × (i < 6) }
+        ensures { result ≡ face_row self i }
+    {
+        match i {
+            2 => mixed(self.a | self.c, self.a & self.c),
+            3 => mixed(self.b | self.d, self.b & self.d),
+            4 => mixed(self.a | self.b, self.a & self.b),
+            _ => mixed(self.c | self.d, self.c & self.d),
+        }
+    }
+
+    // The pattern of cube x of the row.
+    pub fn pattern(self, x: usize) -> usize
+        requires { x < 64 }
+        ensures { (result ≡ pattern_in self x) × (result < 256) }
+    {
+        (pair(self.a, x)
+            + 4 * pair(self.b, x)
+            + 16 * pair(self.c, x)
+            + 64 * pair(self.d, x)) as usize
+    }
 }
 
 // How many of n bits to look at.
@@ -123,23 +114,53 @@ pub fn to_look_at(m: u64, n: usize) -> usize
     if m == 0 { 0 } else { n }
 }
 
-// The crossed cubes at y and z.
-pub fn crossed_cubes(rows: &[u64], may: &[u64], sizes: Sizes, y: usize, z: usize) -> u64
-    requires sized { Sized sizes × (sizes.ny * sizes.nz ≤ length rows.now) × (sizes.ny * sizes.nz ≤ length may.now) }
-    requires y_bound { (y + 1 < sizes.ny) × (z + 1 < sizes.nz) }
-    ensures { let at = y + sizes.ny * z in
-        result ≡ crossed_row (quad_at rows.now sizes.ny at) (get_or may.now at 0) }
-{
-    let r = y + sizes.ny * z;
-    let m = may[r];
-    crossed_row(quad_at(rows, sizes.ny, r), m)
+// ── all rows of a lattice ──
+
+// The sides of a lattice's samples, and a set of its cubes, those that may be visited or those that are: a word to a row.
+#[derive(Clone, Copy)]
+pub struct Rows<'a> {
+    pub sizes: Sizes,
+    pub sides: &'a [u64],
+    pub cubes: &'a [u64],
+    pub ghost sized: { Sized sizes },
+    pub ghost sides_long: { sizes.ny * sizes.nz ≤ length sides.now },
+    pub ghost cubes_long: { sizes.ny * sizes.nz ≤ length cubes.now },
 }
 
-// Whether the cube at p of the lattice that has these rows is crossed.
-pub fn crossed_at(rows: &[u64], may: &[u64], sizes: Sizes, p: Place) -> bool
-    requires { Sized sizes × (sizes.ny * sizes.nz ≤ length rows.now) × (sizes.ny * sizes.nz ≤ length may.now) × CubeIn sizes p }
-    ensures { (s : List ℤ) → let L = lattice sizes s in HasBoth L rows.now may.now → result ≡ crossed L (cube_no sizes p) }
-{
-    let m = crossed_cubes(rows, may, sizes, p.y, p.z);
-    bits::has_bit(m, p.x)
+// The samples of a lattice with its rows.
+#[derive(Clone, Copy)]
+pub struct Surface<'a> {
+    pub samples: &'a [i16],
+    pub rows: Rows<'a>,
+    pub ghost full: { Full (lattice rows.sizes samples.now) },
+}
+
+impl Rows<'_> {
+    // The side rows of row r of the cubes.
+    pub fn quad(&self, r: usize) -> Quad
+        requires { r + self.now.sizes.ny + 1 < self.now.sizes.ny * self.now.sizes.nz }
+        ensures { result ≡ quad_at self.now.sides.now self.now.sizes.ny r }
+    {
+        Quad::at(self.sides, self.sizes.ny, r)
+    }
+
+    // The crossed cubes at y and z.
+    pub fn crossed(&self, y: usize, z: usize) -> u64
+        requires { (y + 1 < self.now.sizes.ny) × (z + 1 < self.now.sizes.nz) }
+        ensures { let at = y + self.now.sizes.ny * z in
+            result ≡ crossed_row (quad_at self.now.sides.now self.now.sizes.ny at) (get_or self.now.cubes.now at 0) }
+    {
+        let r = y + self.sizes.ny * z;
+        self.quad(r).crossed(self.cubes[r])
+    }
+
+    // Whether the cube at p of the lattice that has these rows is crossed.
+    pub fn is_crossed(&self, p: Place) -> bool
+        requires { CubeIn self.now.sizes p }
+        ensures { let n = self.now.sizes in
+            ((s : List ℤ) → let L = lattice n s in
+            HasBoth L self.now.sides.now self.now.cubes.now → result ≡ crossed L (cube_no n p)) }
+    {
+        bits::has_bit(self.crossed(p.y, p.z), p.x)
+    }
 }
