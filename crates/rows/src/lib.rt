@@ -23,7 +23,7 @@ pub struct Quad {
 
 // Where the bits at x and x + 1 of some words are not all alike: o has the bits that one of them has, n those that all have.
 #[tactic(auto, unfolding(crate::specs::Rows::mixed_word))]
-fn mixed(o: u64, n: u64) -> u64
+pub fn mixed(o: u64, n: u64) -> u64
     ensures { result ≡ mixed_word o n }
 {
     (o | (o >> 1)) ^ (n & (n >> 1))
