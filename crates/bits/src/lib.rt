@@ -6,6 +6,7 @@ ghost use Rattle.std.specs.Int.Count.{ones as ones_of};
 ghost use Rattle.bits.specs.Words.{bit};
 
 // Whether place x is in a word.
+#[tactic(auto, unfolding(crate::specs::Words::bit))]
 pub fn has_bit(w: u64, x: usize) -> bool
     requires { x < 64 }
     ensures { result ≡ bit w x }

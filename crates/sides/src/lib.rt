@@ -6,6 +6,7 @@ ghost use Rattle.paper.specs.Lattice.{air, is_fill};
 ghost use Rattle.sides.specs.Pattern.{bit_of, digit_of};
 
 // Above 0 is air.
+#[tactic(auto, unfolding(paper::specs::Lattice::air))]
 pub fn is_air(v: i16) -> bool
     ensures { result ≡ air v }
 {
@@ -13,6 +14,7 @@ pub fn is_air(v: i16) -> bool
 }
 
 // -32768 is the fill.
+#[tactic(auto, unfolding(paper::specs::Lattice::is_fill))]
 pub fn is_fill(v: i16) -> bool
     ensures { result ≡ is_fill v }
 {
@@ -20,6 +22,7 @@ pub fn is_fill(v: i16) -> bool
 }
 
 // The side of corner c in a pattern.
+#[tactic(auto, unfolding(crate::specs::Pattern::bit_of))]
 pub fn bit(m: usize, c: usize) -> usize
     requires { c < 8 }
     ensures { (result ≡ bit_of m c) × (result ≤ 1) }
@@ -28,6 +31,7 @@ pub fn bit(m: usize, c: usize) -> usize
 }
 
 // Digit i, from the right, of a word of octal digits.
+#[tactic(auto, unfolding(crate::specs::Pattern::digit_of))]
 pub fn digit(word: usize, i: usize) -> usize
     requires { i < 21 }
     ensures { (result ≡ digit_of word i) × (result < 8) }
