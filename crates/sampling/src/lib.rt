@@ -5,10 +5,11 @@ ghost use Rattle.std.specs.Prelude.{◌≡◌, ◌+◌, ◌*◌, ◌≤◌, ◌<
 ghost use Rattle.lists.specs.Lists.{over};
 ghost use Rattle.paper.specs.Lattice.{lattice, air, is_fill};
 ghost use Rattle.paper.specs.Sheet.{weight};
-ghost use Rattle.paper.specs.Within.{Sized, Full};
+ghost use Rattle.paper.specs.Within.{Sized};
 ghost use Rattle.bits.specs.Words.{word};
 ghost use Rattle.rows.specs.Rows.{sides_from, fills_from, codes_from, side_rows, fill_rows, free_in, free_rows};
 
+use lattice::Volume;
 use paper::Sizes;
 use rows::Quad;
 
@@ -20,16 +21,15 @@ pub struct Twin {
 }
 
 // 1 for air, 256 for the fill, 0 for solid else.
+#[tactic(auto, using(rows::proofs::Making::air_no_fill))]
 fn code(v: i16) -> u16
     ensures { (result ≡ weight (air v) 1 + 256 * weight (is_fill v) 1) × (result ≤ 257) }
 {
-    if sides::is_air(v) {
-        return 1;
-    }
-    if sides::is_fill(v) { 256 } else { 0 }
+    u16::from(sides::is_air(v)) + 256 * u16::from(sides::is_fill(v))
 }
 
 // The code of sample i.
+#[tactic(auto, using(rows::proofs::Making::codes_one))]
 fn code_at(samples: &[i16], i: usize) -> u16
     requires { i < length samples.now }
     ensures { (result ≡ codes_from samples.now i 1) × (result ≤ 257) }
@@ -38,6 +38,7 @@ fn code_at(samples: &[i16], i: usize) -> u16
 }
 
 // The codes of four samples from i on.
+#[tactic(auto, using(rows::proofs::Making::codes_four))]
 fn four(samples: &[i16], i: usize) -> u16
     requires { i + 4 ≤ length samples.now }
     ensures { (result ≡ codes_from samples.now i 4) × (result ≤ 3855) }
@@ -50,6 +51,7 @@ fn four(samples: &[i16], i: usize) -> u16
 }
 
 // The codes of eight samples from i on.
+#[tactic(auto, using(rows::proofs::Making::codes_eight))]
 fn eight(samples: &[i16], i: usize) -> u16
     requires { i + 8 ≤ length samples.now }
     ensures { result ≡ codes_from samples.now i 8 }
@@ -65,47 +67,43 @@ pub fn sample_row(samples: &[i16], first: usize, n: usize) -> Twin
     ensures { let s = samples.now in
         (result.sides ≡ sides_from s first n) × (result.fills ≡ fills_from s first n) }
 {
-    let mut k = n;
-    let mut w: u64 = 0;
-    let mut f: u64 = 0;
-    while k % 8 != 0 {
-        k -= 1;
+    let mut sides: u64 = 0;
+    let mut fills: u64 = 0;
+    for k in (n - n % 8..n).rev() {
         let c = code_at(samples, first + k);
-        w = 2 * w + (c % 256) as u64;
-        f = 2 * f + (c / 256) as u64;
+        sides = 2 * sides + u64::from(c % 256);
+        fills = 2 * fills + u64::from(c / 256);
     }
-    while 0 < k {
-        k -= 8;
-        let c = eight(samples, first + k);
-        w = 256 * w + (c % 256) as u64;
-        f = 256 * f + (c / 256) as u64;
+    for k in (0..n / 8).rev() {
+        let c = eight(samples, first + 8 * k);
+        sides = 256 * sides + u64::from(c % 256);
+        fills = 256 * fills + u64::from(c / 256);
     }
-    Twin { sides: w, fills: f }
+    Twin { sides, fills }
 }
 
 // All rows of sides and of the fill, each sample read once.
-pub fn sample_rows(samples: &[i16], sizes: Sizes, rows: &mut [u64], fills: &mut [u64])
-    requires { Full (lattice sizes samples.now) × (sizes.ny * sizes.nz ≤ length rows.old)
-        × (sizes.ny * sizes.nz ≤ length fills.old) }
-    ensures { let L = lattice sizes samples.now in
+pub fn sample_rows(volume: &Volume, rows: &mut [u64], fills: &mut [u64])
+    requires { let z = volume.now.sizes in
+        (z.ny * z.nz ≤ length rows.old) × (z.ny * z.nz ≤ length fills.old) }
+    ensures { let L = lattice volume.now.sizes volume.now.samples.now in
         (rows.new ≡ over (side_rows L) rows.old) × (fills.new ≡ over (fill_rows L) fills.old) }
 {
-    let n = sizes.ny * sizes.nz;
-    let mut r = 0;
-    while r < n {
-        let t = sample_row(samples, sizes.nx * r, sizes.nx);
+    let sizes = volume.sizes;
+    for r in 0..sizes.ny * sizes.nz {
+        let t = sample_row(volume.samples, sizes.nx * r, sizes.nx);
         rows[r] = t.sides;
         fills[r] = t.fills;
-        r += 1;
     }
 }
 
 // The first n cubes of a row that have no corner in the words.
+#[tactic(auto, using(rows::proofs::Cubes::free_word))]
 fn free_row(q: Quad, n: usize) -> u64
     requires { n < 64 }
     ensures { result ≡ word (free_in q) n }
 {
-    let o = rows::either(q);
+    let o = q.either();
     let low = bits::low_bits(n);
     low - ((o | (o >> 1)) & low)
 }
@@ -115,11 +113,8 @@ pub fn free_rows(sizes: Sizes, words: &mut [u64])
     requires { Sized sizes × (sizes.ny * sizes.nz ≤ length words.old) }
     ensures { words.new ≡ over (free_rows sizes words.old) words.old }
 {
-    let n = sizes.ny * (sizes.nz - 1) - 1;
-    let mut r = 0;
-    while r < n {
-        let q = rows::quad_at(words, sizes.ny, r);
+    for r in 0..sizes.ny * (sizes.nz - 1) - 1 {
+        let q = Quad::at(words, sizes.ny, r);
         words[r] = free_row(q, sizes.nx - 1);
-        r += 1;
     }
 }

@@ -1,6 +1,7 @@
 -- The machine reads the sample back from its bits. Assumes nothing.
 use mathlib.Core.Path.{ap, ◌∙◌}
 use Prim.Native.Nat.{◌+◌, ◌*◌}
+use borrow.Author.Rules.{rules}
 use mir.Facts.{to_z-of_z}
 use mir.Syntax.{w16}
 use lib.IntN.{ℤ, pos}
@@ -15,7 +16,7 @@ returns c =
     let a = c.args in (
       c.code.ensures.0
           ∙ ap (λ (v : ℤ). weight (air v) 1 + 256 * weight (is_fill v) 1)
-          (to_z-of_z {w = w16} {z = get_or a.samples.now a.i (pos 0)} (record { sfits = c.code-arg-1.given }))
+          (to_z-of_z {w = w16} {z = get_or a.samples.now a.i (pos 0)} (record { sfits = search rules }))
           ∙ codes_one a.samples.now a.i,
       c.code.ensures.1,
     )
