@@ -2,4 +2,3 @@
 pub mod Coordinates
 pub mod Records
 pub mod Rounding
-pub mod Values

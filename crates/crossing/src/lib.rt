@@ -1,18 +1,19 @@
 // Crossings: t, positions, and the record of a vertex.
 #![tactic(auto)]
 
-ghost use Rattle.std.specs.Prelude.{◌≡◌, true, false, ◌+◌, ◌*◌, ◌≤◌, ◌<◌, pos, length};
+ghost use Rattle.std.specs.Prelude.{◌≡◌, true, false, ◌+◌, ◌*◌, ◌≤◌, ◌<◌, pos, length, unsigned_abs};
 ghost use Rattle.std.proofs.lemmas.List.Edits.{sets};
-ghost use Rattle.paper.specs.Lattice.{lattice, air, sample_no, value_at, air_at, corner};
+ghost use Rattle.paper.specs.Lattice.{lattice, air, sample_no, air_at, corner};
 ghost use Rattle.paper.specs.Sheet.{edge_from, ends_of, rounded, crossing, coordinate, record_at, vertex_record};
-ghost use Rattle.paper.specs.Within.{Full, SampleIn};
+ghost use Rattle.paper.specs.Within.{SampleIn};
 ghost use Rattle.crossing.specs.Vertex.{numbers, Near, NearPlaces, Crosses};
 ghost use Rattle.crossing.specs.Rounding.{more_by};
 
-use paper::{Place, Rule, Sizes};
+use lattice::Volume;
+use paper::{Place, Rule};
 
 // A vertex record.
-#[derive(Clone, Copy)]
+#[derive(Clone, Copy, Debug, PartialEq, Eq)]
 pub struct Vertex {
     pub edge: i32,
     pub x: i32,
@@ -47,10 +48,17 @@ fn is_rounded(rule: Rule, n: u32, d: u32, t: u32) -> bool
 {
     let m = n + more_by(rule, d);
     let low = t * d;
-    if m < low {
-        return false;
-    }
-    m - low < d
+    low <= m && m - low < d
+}
+
+// −p and q − p, for the solid end's value p and the air end's value q.
+fn solid_and_whole(p: i16, q: i16) -> (u32, u32)
+    requires { (air p ≡ false) × (air q ≡ true) }
+    ensures values { (result.0 ≡ unsigned_abs p) × (result.1 ≡ unsigned_abs q + unsigned_abs p) }
+    ensures small { (result.0 ≤ 32768) × (0 < result.1) × (result.1 ≤ 65535) }
+{
+    let n = u32::from(p.unsigned_abs());
+    (n, u32::from(q.unsigned_abs()) + n)
 }
 
 // t by a rule, for the solid end's value p and the air end's value q.
@@ -58,9 +66,8 @@ pub fn crossing_of(rule: Rule, p: i16, q: i16) -> u32
     requires { (air p ≡ false) × (air q ≡ true) }
     ensures { (result ≡ crossing rule p q) × (result ≤ 65534) }
 {
-    let n = -(p as i32);
-    let d = (q as i32) - (p as i32);
-    rounded_by(rule, 65536 * (n as u32), d as u32)
+    let (n, d) = solid_and_whole(p, q);
+    rounded_by(rule, 65536 * n, d)
 }
 
 // Whether t is that number: a product where it is found by a quotient.
@@ -68,9 +75,8 @@ pub fn is_crossing(rule: Rule, p: i16, q: i16, t: u32) -> bool
     requires { (air p ≡ false) × (air q ≡ true) × (t ≤ 65536) }
     ensures { result ≡ true → t ≡ crossing rule p q }
 {
-    let n = -(p as i32);
-    let d = (q as i32) - (p as i32);
-    is_rounded(rule, 65536 * (n as u32), d as u32, t)
+    let (n, d) = solid_and_whole(p, q);
+    is_rounded(rule, 65536 * n, d, t)
 }
 
 // The coordinate, on one axis, of a crossing that stands t units from the solid end towards the air end.
@@ -83,23 +89,14 @@ pub fn position(solid: usize, airy: usize, t: u32) -> i32
     65536 * from + step * (t as i32)
 }
 
-// The sample at a place.
-pub fn value(samples: &[i16], sizes: Sizes, p: Place) -> i16
-    requires { Full (lattice sizes samples.now) × SampleIn sizes p }
-    ensures { result ≡ value_at (lattice sizes samples.now) p }
-{
-    samples[lattice::sample_no(sizes, p)]
-}
-
 // The record of edge e by a rule, with the solid end at s and the air end at a.
-fn record_of(rule: Rule, samples: &[i16], sizes: Sizes, e: usize, s: Place, a: Place) -> Vertex
-    requires full { Full (lattice sizes samples.now) × SampleIn sizes s × SampleIn sizes a × NearPlaces s a × (e < 2147483648) }
-    requires s_value { (air_at (lattice sizes samples.now) s ≡ false) × (air_at (lattice sizes samples.now) a ≡ true) }
-    ensures { numbers result ≡ record_at rule (lattice sizes samples.now) e s a }
+fn record_of(rule: Rule, volume: &Volume, e: usize, s: Place, a: Place) -> Vertex
+    requires within { SampleIn volume.now.sizes s × SampleIn volume.now.sizes a × NearPlaces s a × (e < 2147483648) }
+    requires s_value { let L = lattice volume.now.sizes volume.now.samples.now in
+        (air_at L s ≡ false) × (air_at L a ≡ true) }
+    ensures { numbers result ≡ record_at rule (lattice volume.now.sizes volume.now.samples.now) e s a }
 {
-    let p = value(samples, sizes, s);
-    let q = value(samples, sizes, a);
-    let t = crossing_of(rule, p, q);
+    let t = crossing_of(rule, volume.value(s), volume.value(a));
     Vertex {
         edge: e as i32,
         x: position(s.x, a.x, t),
@@ -108,28 +105,26 @@ fn record_of(rule: Rule, samples: &[i16], sizes: Sizes, e: usize, s: Place, a: P
     }
 }
 
-// The first ends of the edges of each kind, as corners from the anchor: R adds 1, T 2, F 4. Octal digit k, from the right, is that of
-// kind k.
-const FIRST_ENDS: usize = 0o3212000;
-
-// Their second ends, likewise.
-const SECOND_ENDS: usize = 0o4144421;
-
-fn first_end(kind: usize) -> usize
+// The ends of an edge of a kind, as corners from the anchor: R adds 1, T 2, F 4.
+#[tactic(auto, unfolding(paper::specs::Sheet::ends_of, paper::specs::Tables::kinds))]
+fn ends(kind: usize) -> (usize, usize)
     requires { kind < 7 }
-    ensures { (result ≡ (ends_of kind).a) × (result < 8) }
+    ensures values { (result.0 ≡ (ends_of kind).a) × (result.1 ≡ (ends_of kind).b) }
+    ensures small { (result.0 < 8) × (result.1 < 8) }
 {
-    sides::digit(FIRST_ENDS, kind)
-}
-
-fn second_end(kind: usize) -> usize
-    requires { kind < 7 }
-    ensures { (result ≡ (ends_of kind).b) × (result < 8) }
-{
-    sides::digit(SECOND_ENDS, kind)
+    match kind {
+        0 => (0, 1),
+        1 => (0, 2),
+        2 => (0, 4),
+        3 => (2, 4),
+        4 => (1, 4),
+        5 => (2, 1),
+        _ => (3, 4),
+    }
 }
 
 // The sample at a corner of the cube at p.
+#[tactic(auto, unfolding(paper::specs::Lattice::corner))]
 pub fn corner_of(p: Place, c: usize) -> Place
     requires { (p.x < 64) × (p.y < 64) × (p.z < 64) × (c < 8) }
     ensures { result ≡ corner p c }
@@ -142,18 +137,20 @@ pub fn corner_of(p: Place, c: usize) -> Place
 }
 
 // The record, by a rule, of the vertex on the edge of a kind at the anchor p.
-pub fn vertex_on(rule: Rule, samples: &[i16], sizes: Sizes, p: Place, kind: usize) -> Vertex
-    requires { Full (lattice sizes samples.now) × SampleIn sizes p × Crosses (lattice sizes samples.now) p kind }
-    ensures { numbers result ≡ vertex_record rule (lattice sizes samples.now) (7 * sample_no sizes p + kind) }
+pub fn vertex_on(rule: Rule, volume: &Volume, p: Place, kind: usize) -> Vertex
+    requires { SampleIn volume.now.sizes p × Crosses (lattice volume.now.sizes volume.now.samples.now) p kind }
+    ensures { let L = lattice volume.now.sizes volume.now.samples.now in
+        numbers result ≡ vertex_record rule L (7 * sample_no volume.now.sizes p + kind) }
 {
-    let e = 7 * lattice::sample_no(sizes, p) + kind;
-    let u = corner_of(p, first_end(kind));
-    let v = corner_of(p, second_end(kind));
-    let first = value(samples, sizes, u);
-    if sides::is_air(first) {
-        return record_of(rule, samples, sizes, e, v, u);
+    let e = 7 * lattice::sample_no(volume.sizes, p) + kind;
+    let (a, b) = ends(kind);
+    let u = corner_of(p, a);
+    let v = corner_of(p, b);
+    if sides::is_air(volume.value(u)) {
+        record_of(rule, volume, e, v, u)
+    } else {
+        record_of(rule, volume, e, u, v)
     }
-    record_of(rule, samples, sizes, e, u, v)
 }
 
 // A record at place k of a vertex slice.
@@ -162,12 +159,5 @@ pub fn put_vertex(vertices: &mut [i32], k: usize, v: Vertex)
     ensures { vertices.new ≡ sets vertices.old (4 * k) (numbers v) }
 {
     let at = 4 * k;
-    let e = v.edge;
-    let x = v.x;
-    let y = v.y;
-    let z = v.z;
-    vertices[at] = e;
-    vertices[at + 1] = x;
-    vertices[at + 2] = y;
-    vertices[at + 3] = z;
+    vertices[at..at + 4].copy_from_slice(&[v.edge, v.x, v.y, v.z]);
 }

@@ -17,17 +17,18 @@ pub crossing_of-t-requires : goal.crossing_of-t-requires
 unfolding air_at
 crossing_of-t-requires c =
     let p = c.requires.s_value in (
-      ap air (to_z-of_z {w = w16} (record { sfits = c.value-p.type_inv }) ∙ c.value-p.ensures) ∙ p.0,
-      ap air (to_z-of_z {w = w16} (record { sfits = c.value-q.type_inv }) ∙ c.value-q.ensures) ∙ p.1,
+      ap air (to_z-of_z {w = w16} (record { sfits = c.value.type_inv }) ∙ c.value.ensures) ∙ p.0,
+      ap air (to_z-of_z {w = w16} (record { sfits = c.value-2.type_inv }) ∙ c.value-2.ensures) ∙ p.1,
     )
 
 pub returns : goal.returns
 unfolding record_at
 returns c =
     let a = c.args in
-    let L = lattice a.sizes a.samples.now in
-    let p = to_z-of_z {w = w16} (record { sfits = c.value-p.type_inv }) ∙ c.value-p.ensures in
-    let q = to_z-of_z {w = w16} (record { sfits = c.value-q.type_inv }) ∙ c.value-q.ensures in
+    let v = a.volume.now in
+    let L = lattice v.sizes v.samples.now in
+    let p = to_z-of_z {w = w16} (record { sfits = c.value.type_inv }) ∙ c.value.ensures in
+    let q = to_z-of_z {w = w16} (record { sfits = c.value-2.type_inv }) ∙ c.value-2.ensures in
     let t : c.crossing_of-t.result ≡ crossing a.rule (value_at L a.s) (value_at L a.a) = c.crossing_of-t.ensures.0 ∙ (λ i. crossing a.rule (p i) (q i)) in
     four (to_z_pos w32 (omega arith))
     (to_z-of_z {w = w32} (record { sfits = c.position.type_inv }) ∙ (c.position.ensures ∙ ap (λ (t : ℕ). pos (coordinate a.s.x a.a.x t)) t))
