@@ -18,10 +18,6 @@ size_of d = cond (lt d none) (neg d) d
 abbrev pub most : Float
 most = fin false 32767 (pos 0)
 
--- x, and 32,767 where it is not below
-unfoldable pub at_most : Float → Float
-at_most x = cond (lt x most) x most
-
 -- a float from 0 to 32,767, minus zero among them, and its whole part
 abbrev pub Plain : Float → Type 0
 Plain nan = ⊥

@@ -2,7 +2,7 @@
 #![tactic(auto)]
 
 // "either as a fixed grey or as halfway between an air grey and a material grey": the grey, or air and material.
-#[derive(Clone, Copy)]
+#[derive(Clone, Copy, Debug, PartialEq)]
 pub enum Level {
     Fixed(f32),
     Halfway(f32, f32),

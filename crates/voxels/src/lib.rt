@@ -6,7 +6,7 @@ ghost use Rattle.std.specs.Float.{binary32};
 ghost use Rattle.std.specs.Float.Ieee.{fits};
 ghost use Rattle.greys.specs.Level.{is_grey, level_of, are_greys, is_ordered};
 ghost use Rattle.greys.specs.Sample.{is_scale, held, sample_of};
-ghost use Rattle.greys.specs.Within.{Scale, size_of, at_most, Plain, whole, Bounded};
+ghost use Rattle.greys.specs.Within.{Scale, size_of, Plain, whole, Bounded};
 
 use greys::Level;
 
@@ -16,13 +16,11 @@ use greys::Level;
 pub fn is_grey(v: f32) -> bool
     ensures { result ≡ is_grey v }
 {
-    if v < -65536.0 {
-        return false;
-    }
-    v <= 65536.0
+    -65536.0 <= v && v <= 65536.0
 }
 
 // The grey that is sought.
+#[tactic(auto, unfolding(greys::specs::Level::level_of))]
 pub fn level_of(l: Level) -> f32
     ensures { result ≡ level_of l }
 {
@@ -32,21 +30,18 @@ pub fn level_of(l: Level) -> f32
     }
 }
 
+#[tactic(auto, unfolding(greys::specs::Level::are_greys))]
 pub fn are_greys(l: Level) -> bool
     ensures { result ≡ are_greys l }
 {
     match l {
         Level::Fixed(g) => is_grey(g),
-        Level::Halfway(air, material) => {
-            if !is_grey(air) {
-                return false;
-            }
-            is_grey(material)
-        }
+        Level::Halfway(air, material) => is_grey(air) && is_grey(material),
     }
 }
 
 // Whether air is below material.
+#[tactic(auto, unfolding(greys::specs::Level::is_ordered))]
 pub fn is_ordered(l: Level) -> bool
     ensures { result ≡ is_ordered l }
 {
@@ -57,35 +52,20 @@ pub fn is_ordered(l: Level) -> bool
 }
 
 // Powers of two up to 256 are the divisors of 256.
+#[tactic(auto, using(greys::proofs::Scales::no_scale, greys::proofs::Scales::divides))]
 pub fn is_scale(n: u32) -> bool
     ensures { result ≡ is_scale n }
 {
-    if n == 0 {
-        return false;
-    }
-    256 % n == 0
+    n != 0 && 256 % n == 0
 }
 
 // ── a sample ──
 
-// d without its sign.
+// d without its sign. Not `f32::abs`, which also turns -0 into 0: with it a conversion takes a quarter longer.
 fn size_of(d: f32) -> f32
     ensures { result ≡ size_of d }
 {
-    if d < 0.0 {
-        return -d;
-    }
-    d
-}
-
-// Held to 32,767.
-fn at_most(x: f32) -> f32
-    ensures { result ≡ at_most x }
-{
-    if x < 32767.0 {
-        return x;
-    }
-    32767.0
+    if d < 0.0 { -d } else { d }
 }
 
 // The whole part of p. From 2^23 to 2^24 floats are the whole numbers, so the sum's last digits are the whole number nearest to p.
@@ -93,11 +73,8 @@ fn whole_part(p: f32) -> u16
     requires { Plain p }
     ensures { (result ≡ whole p) × (result ≤ 32767) }
 {
-    let near = (f32::to_bits(p + 8388608.0) - 1258291200) as u16;
-    if p < (near as f32) {
-        return near - 1;
-    }
-    near
+    let near = ((p + 8388608.0).to_bits() - 1258291200) as u16;
+    if p < (near as f32) { near - 1 } else { near }
 }
 
 // d times the scale in size, held and cut. The product is not rounded.
@@ -106,7 +83,7 @@ fn steps(d: f32, scale: u32) -> u16
     ensures { (result ≡ held d scale) × (result ≤ 32767) }
 {
     let size = size_of(d);
-    whole_part(at_most(size * (scale as f32)))
+    whole_part((size * (scale as f32)).min(32767.0))
 }
 
 // A sample of air is at least 1.
@@ -114,10 +91,7 @@ fn air(c: u16) -> i16
     requires { c ≤ 32767 }
     ensures { result ≡ pos (max 1 c) }
 {
-    if c < 1 {
-        return 1;
-    }
-    c as i16
+    c.max(1) as i16
 }
 
 // A sample of solid is not above 0.
@@ -134,8 +108,5 @@ pub fn sample_of(level: f32, scale: u32, voxel: f32) -> i16
 {
     let d = level - voxel;
     let size = steps(d, scale);
-    if 0.0 < d {
-        return air(size);
-    }
-    solid(size)
+    if 0.0 < d { air(size) } else { solid(size) }
 }

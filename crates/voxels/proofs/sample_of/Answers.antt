@@ -1,4 +1,4 @@
--- `floats::sample_of` meets its contract, by the side of the difference. Assumes nothing.
+-- `voxels::sample_of` meets its contract, by the side of the difference. Assumes nothing.
 use mathlib.Core.Path.{ap, ◌∙◌}
 use Prim.Native.Nat.{ℕ, max}
 use native.Mathlib.Omega.{arith}
@@ -23,9 +23,9 @@ returns-then-d c =
     ∙ ap (λ (k : ℕ). pos (max 1 k)) steps.ensures.0
     ∙ rw c.if-d.true
 
-pub returns : goal.returns
+pub returns-else-d : goal.returns-else-d
 unfolding sample_of cut_of of_bits of_fields odd
-returns c =
+returns-else-d c =
     let steps = c.steps-size in
     below_back c.solid.result steps.result c.solid.ensures (omega (arith, steps.ensures.1))
     ∙ ap (λ (k : ℕ). neg_ℤ (pos k)) steps.ensures.0

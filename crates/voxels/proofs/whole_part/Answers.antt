@@ -1,4 +1,4 @@
--- `floats::whole_part` meets its contract: the sum's last digits are the whole part, or one more, which is above p. Assumes nothing.
+-- `voxels::whole_part` meets its contract: the sum's last digits are the whole part, or one more, which is above p. Assumes nothing.
 use native.Mathlib.Omega.{arith}
 use Rattle.greys.proofs.Nearest.{nearest, sum_high, last_most, part_most_is, one_above, not_above}
 use Rattle.voxels.proofs.whole_part.Goals as goal
@@ -22,8 +22,8 @@ returns-then-p-near c =
     let e = one_above c.args.p c.requires c.if-p-near.true in
     (omega arith, omega arith)
 
-pub returns : goal.returns
-returns c =
+pub returns-else-p-near : goal.returns-else-p-near
+returns-else-p-near c =
     let m = part_most_is c.args.p c.requires in
     let e = not_above c.args.p c.requires c.if-p-near.false in
     (e, omega arith)
