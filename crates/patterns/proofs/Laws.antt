@@ -18,6 +18,7 @@ use Rattle.paper.specs.Lattice.{Lattice, sample_no, cube_at}
 use Rattle.paper.specs.Within.{Sized}
 use Rattle.paper.specs.Tables.{Tri, tri, rows}
 use Rattle.paper.specs.Sheet.{cube_triangles, corners3}
+use Rattle.tetra.specs.declared.Cut.{Cut}
 use Rattle.tetra.specs.Cut.{tet_step, row_by, row_count, row_edge, row_steps, row_triangles, triangles_by}
 use Rattle.tetra.proofs.Tables.{count_le, edge_six}
 use Rattle.tetra.proofs.Laws.{row_step_at, tet_step_small, cube_triangles_by}
@@ -157,7 +158,7 @@ module _ (z : Sizes) (P : ℕ → Type 0) (h : (t j : ℕ) → t < 6 → j < 6 �
       (in_all _ (range 0 6) (λ t i. row_all t (row_by m t) (omega (arith, range_in 0 6 t i)) (row_small m t))))
 
 -- and they are small
-pub steps_small : (z : Sizes) → Sized z → Small (row_steps z)
+steps_small : (z : Sizes) → Sized z → Small (row_steps z)
 steps_small z s = record {
   below = λ i h.
       let t = i / 96 in
@@ -174,6 +175,9 @@ steps_small z s = record {
             (edge_six r j hr (omega arith)),
       );
 }
+
+pub cut_small : (c : Cut) → Small c.steps
+cut_small c = subst Small (sym c.stepped) (steps_small c.sizes c.sized)
 
 -- ── entries that are stored, and others ──
 
@@ -199,7 +203,7 @@ module _ (f : ℕ → List ℕ) (le : (m : ℕ) → length (f m) ≤ 36) (m : �
   fits : 36 * m + length (f m) ≤ length table
   fits = omega (arith, le m, T.table_fit)
 
-  pub tabled_more : (end : ℕ) → end ≡ 36 * m + length (f m) → Tabled f (m + 1) (sets table (36 * m) (f m)) (set counts m (end - 36 * m))
+  tabled_more : (end : ℕ) → end ≡ 36 * m + length (f m) → Tabled f (m + 1) (sets table (36 * m) (f m)) (set counts m (end - 36 * m))
   tabled_more end e = record {
     table_fit = omega (arith, length-sets table (36 * m) (f m), T.table_fit);
     counts_fit = omega (arith, length-set counts m (end - 36 * m), T.counts_fit);
@@ -222,28 +226,16 @@ module _ (f : ℕ → List ℕ) (le : (m : ℕ) → length (f m) ≤ 36) (m : �
           ∙ (sets_in (f m) table (36 * m) i (omega (arith, ap (λ (j : ℕ). length (f j)) q)) fits ∙ ap (λ (j : ℕ). get_or (f j) i 0) (sym q))
 
 -- m patterns stand in the table
-pub record Filling (s : List ℕ) (m : ℕ) (table₀ counts₀ table counts : List ℕ) : Type 0 where
+pub record Filling (s : List ℕ) (m : ℕ) (table counts : List ℕ) : Type 0 where
   pub upto : m ≤ 256
   pub tabled : Tabled (pattern_from s) m table counts
-  pub table_long : length table ≡ length table₀
-  pub counts_long : length counts ≡ length counts₀
 
-pub filling_none : (s table counts : List ℕ) → 9216 ≤ length table → 256 ≤ length counts → Filling s 0 table counts table counts
-filling_none s table counts a b = record {
-  upto = omega arith;
-  tabled = record { table_fit = a; counts_fit = b; count = λ k l. absurd (omega arith); at = λ k i l g. absurd (omega arith) };
-  table_long = refl;
-  counts_long = refl;
-}
-
-pub filling_more : (s : List ℕ) (m end : ℕ) (table₀ counts₀ table counts : List ℕ) → Filling s m table₀ counts₀ table counts → m < 256
+pub filling_more : (s : List ℕ) (m end : ℕ) (table counts : List ℕ) → Filling s m table counts → m < 256
     → end ≡ 36 * m + length (pattern_from s m)
-    → Filling s (m + 1) table₀ counts₀ (sets table (36 * m) (pattern_from s m)) (set counts m (end - 36 * m))
-filling_more s m end table₀ counts₀ table counts F h e = record {
+    → Filling s (m + 1) (sets table (36 * m) (pattern_from s m)) (set counts m (end - 36 * m))
+filling_more s m end table counts F h e = record {
   upto = omega arith;
   tabled = tabled_more (pattern_from s) (pattern_le s) m table counts F.tabled h end e;
-  table_long = length-sets table (36 * m) (pattern_from s m) ∙ F.table_long;
-  counts_long = length-set counts m (end - 36 * m) ∙ F.counts_long;
 }
 
 -- ── a cube of the lattice ──

@@ -4,59 +4,64 @@
 ghost use Rattle.std.specs.Prelude.{◌≡◌, ◌+◌, ◌≤◌, ◌<◌, length};
 ghost use Rattle.std.proofs.lemmas.List.Edits.{sets};
 ghost use Rattle.paper.specs.Within.{Sized};
-ghost use Rattle.tetra.specs.Cut.{tet_corners};
-ghost use Rattle.patterns.specs.Table.{steps_from, pattern_from, steps_by, Small, Tabled};
+ghost use Rattle.patterns.specs.Table.{steps_from, pattern_from, steps_by, Tabled};
 
 use paper::Sizes;
+use tetra::Cut;
 
 // The steps of row r of tetrahedron t, from place `at` on; the next place is returned.
-fn put_steps(steps: &[usize; 576], t: usize, r: usize, table: &mut [u16], at: usize) -> usize
-    requires { Small steps.now × (t < 6) × (r < 16) × (at + 6 ≤ length table.old) }
-    ensures { let new = steps_from steps.now t r in
-        (table.new ≡ sets table.old at new) × (result ≡ at + length new) }
+#[tactic(auto, using(tetra::proofs::Tables::count_le))]
+fn put_steps(cut: &Cut, t: usize, r: usize, steps: &mut [u16], at: usize) -> usize
+    requires { (t < 6) × (r < 16) × (at + 6 ≤ length steps.old) }
+    ensures { let new = steps_from cut.now.steps t r in
+        (steps.new ≡ sets steps.old at new) × (result ≡ at + length new) }
 {
     let n = 3 * tetra::row_count(r);
-    let mut i = 0;
-    while i < n {
-        table[at + i] = steps[96 * t + (6 * r + i)] as u16;
-        i += 1;
+    for i in 0..n {
+        steps[at + i] = cut.steps[96 * t + (6 * r + i)] as u16;
     }
     at + n
 }
 
 // The steps of a cube with pattern m.
-fn put_pattern(
-    corners: &[usize; 24],
-    steps: &[usize; 576],
-    m: usize,
-    table: &mut [u16],
-    at: usize,
-) -> usize
-    requires { (corners.now ≡ tet_corners) × Small steps.now × (at + 36 ≤ length table.old) }
-    ensures { let new = pattern_from steps.now m in
-        (table.new ≡ sets table.old at new) × (result ≡ at + length new) }
+fn put_pattern(cut: &Cut, m: usize, steps: &mut [u16], at: usize) -> usize
+    requires { at + 36 ≤ length steps.old }
+    ensures { let new = pattern_from cut.now.steps m in
+        (steps.new ≡ sets steps.old at new) × (result ≡ at + length new) }
 {
     let mut next = at;
-    let mut t = 0;
-    while t < 6 {
-        let r = tetra::row(corners, m, t);
-        next = put_steps(steps, t, r, table, next);
-        t += 1;
+    for t in 0..6 {
+        next = put_steps(cut, t, tetra::row(m, t), steps, next);
     }
     next
 }
 
-// The table, and how many entries each pattern has.
-pub fn pattern_table(sizes: Sizes, table: &mut [u16], counts: &mut [usize])
-    requires { Sized sizes × (9216 ≤ length table.old) × (256 ≤ length counts.old) }
-    ensures { Tabled (steps_by sizes) 256 table.new counts.new }
-{
-    let corners = tetra::tet_corners();
-    let steps = tetra::row_steps(sizes);
-    let mut m = 0;
-    while m < 256 {
-        let end = put_pattern(&corners, &steps, m, table, 36 * m);
-        counts[m] = end - 36 * m;
-        m += 1;
+// The steps of each pattern, 36 places to a pattern, and how many it has.
+#[derive(Drop)]
+pub struct Table {
+    pub sizes: Sizes,
+    pub steps: [u16; 9216],
+    pub counts: [usize; 256],
+    pub ghost sized: { Sized sizes },
+    pub ghost tabled: { Tabled (steps_by sizes) 256 steps counts },
+}
+
+impl Table {
+    pub fn new(sizes: Sizes) -> Table
+        requires { Sized sizes }
+        ensures { result.sizes ≡ sizes }
+    {
+        let cut = Cut::new(sizes);
+        let mut steps = [0u16; 9216];
+        let mut counts = [0usize; 256];
+        for m in 0..256 {
+            let end = put_pattern(&cut, m, &mut steps[..], 36 * m);
+            counts[m] = end - 36 * m;
+        }
+        Table {
+            sizes,
+            steps,
+            counts,
+        }
     }
 }

@@ -4,58 +4,39 @@ use mathlib.Core.List.{List}
 use Prim.Native.Nat.{ℕ, ◌+◌}
 use native.Mathlib.Omega.{arith}
 use lib.ListN.{length, length-append}
-use lib.Seq.{sets, length-sets}
+use lib.Seq.{sets}
 use Rattle.lists.proofs.Stores.{sets_next}
 use Rattle.tetra.specs.Cut.{row_by}
 use Rattle.patterns.specs.Table.{steps_from}
 use Rattle.patterns.proofs.Laws.{steps_to, to_none, to_more, to_all, to_le}
 use Rattle.patterns.proofs.put_pattern.Goals as goal
-use Rattle.patterns.proofs.put_pattern.Goals.{At-loop-t}
-
-long : (c : goal.At-loop-t) → length c.loop-t.table ≡ length c.args.table.now
-long c =
-    let a = c.args in
-    ap length c.loop-t.invariant.written ∙ length-sets a.table.now a.at (steps_to a.steps.now a.m c.loop-t.t)
 
 pub loop-t-init : goal.loop-t-init
 loop-t-init c =
     let a = c.args in
-    let e = to_none a.steps.now a.m in
-    record {
-      upto = omega arith;
-      written = ap (sets a.table.now a.at) e;
-      next_is = omega (arith, ap length e);
-    }
-
-pub row-r-requires : goal.row-r-requires
-row-r-requires c = (c.requires.0, omega arith)
+    let e = to_none a.cut.now.steps a.m in
+    record { upto = omega arith; written = ap (sets a.steps.now a.at) e; next_is = omega (arith, ap length e) }
 
 pub put_steps-next-requires : goal.put_steps-next-requires
 put_steps-next-requires c =
-    let w = to_le c.args.steps.now c.args.m c.loop-t.t in
-    (c.requires.1, omega arith, c.row-r.ensures.1, omega (arith, c.requires.2, long (goal.at.put_steps-next-requires c).At-loop-t, c.loop-t.invariant.next_is, w))
-
-pub overflow_add-t : goal.overflow_add-t
-overflow_add-t c = omega arith
-
-pub loop-t-smaller : goal.loop-t-smaller
-loop-t-smaller c = omega arith
+    let w = to_le c.args.cut.now.steps c.args.m c.loop-t.t in
+    (omega arith, c.row.ensures.1, omega (arith, c.requires, c.loop-t.invariant.next_is, w))
 
 pub loop-t-preserved : goal.loop-t-preserved
 loop-t-preserved c =
     let a = c.args in
-    let s = a.steps.now in
+    let s = a.cut.now.steps in
     let t = c.loop-t.t in
     let f = steps_to s a.m t in
     let g = steps_from s t (row_by a.m t) in
-    let e : steps_from s t c.row-r.result ≡ g = ap (steps_from s t) c.row-r.ensures.0 in
+    let e : steps_from s t c.row.result ≡ g = ap (steps_from s t) c.row.ensures.0 in
     let i = c.loop-t.invariant in
     record {
       upto = omega arith;
       written =
-          sets_next a.table.now a.at c.loop-t.next f g (sym i.next_is) i.written
-          (c.put_steps-next.ensures.0 ∙ ap (sets c.loop-t.table c.loop-t.next) e)
-          ∙ ap (sets a.table.now a.at) (to_more s a.m t);
+          sets_next a.steps.now a.at c.loop-t.next f g (sym i.next_is) i.written
+          (c.put_steps-next.ensures.0 ∙ ap (sets c.loop-t.steps c.loop-t.next) e)
+          ∙ ap (sets a.steps.now a.at) (to_more s a.m t);
       next_is =
           omega (
             arith,
@@ -67,13 +48,10 @@ loop-t-preserved c =
           );
     }
 
-pub shape_of-table : goal.shape_of-table
-shape_of-table c = long (goal.at.shape_of-table c).At-loop-t
-
 pub returns : goal.returns
 returns c =
     let a = c.args in
-    let s = a.steps.now in
+    let s = a.cut.now.steps in
     let q : c.loop-t.t ≡ 6 = omega arith in
     let e = ap (steps_to s a.m) q ∙ to_all s a.m in
-    (c.loop-t.invariant.written ∙ ap (sets a.table.now a.at) e, c.loop-t.invariant.next_is ∙ ap (λ (ts : List ℕ). a.at + length ts) e)
+    (c.loop-t.invariant.written ∙ ap (sets a.steps.now a.at) e, c.loop-t.invariant.next_is ∙ ap (λ (ts : List ℕ). a.at + length ts) e)
