@@ -16,12 +16,36 @@ field_suc k [] (suc at) = omega (arith, ap unle (take-nil {A = ℕ} k))
 field_suc k (b ∷ bs) zero = refl
 field_suc k (b ∷ bs) (suc at) = field_suc k bs at
 
-pub field_more : (k : ℕ) (bs : List ℕ) (at next : ℕ) → next ≡ suc at → field (suc k) bs at ≡ get_or bs at 0 + 256 * field k bs next
+field_more : (k : ℕ) (bs : List ℕ) (at next : ℕ) → next ≡ suc at → field (suc k) bs at ≡ get_or bs at 0 + 256 * field k bs next
 field_more k bs at next e = rw e (field_suc k bs at)
 
-pub field_none : (bs : List ℕ) (at : ℕ) → field 0 bs at ≡ 0
+field_none : (bs : List ℕ) (at : ℕ) → field 0 bs at ≡ 0
 unfolding field
 field_none bs at = refl
+
+-- a field of two bytes, and of four
+pub field_two : (bs : List ℕ) (at : ℕ) → field 2 bs at ≡ get_or bs at 0 + 256 * get_or bs (at + 1) 0
+field_two bs at =
+    omega (arith, field_more 1 bs at (at + 1) (omega arith), field_more 0 bs (at + 1) (at + 2) (omega arith), field_none bs (at + 2))
+
+pub field_four : (bs : List ℕ) (at : ℕ)
+    → field 4 bs at ≡ get_or bs at 0 + 256 * get_or bs (at + 1) 0 + 65536 * get_or bs (at + 2) 0 + 16777216 * get_or bs (at + 3) 0
+field_four bs at =
+    omega (
+      arith,
+      field_more 3 bs at (at + 1) (omega arith),
+      field_more 2 bs (at + 1) (at + 2) (omega arith),
+      field_more 1 bs (at + 2) (at + 3) (omega arith),
+      field_more 0 bs (at + 3) (at + 4) (omega arith),
+      field_none bs (at + 4),
+    )
+
+-- the four bytes of a number, each by one division
+pub le_four : (n : ℕ) → le 4 n ≡ n % 256 ∷ n / 256 % 256 ∷ n / 65536 % 256 ∷ n / 16777216 % 256 ∷ []
+le_four n =
+    let e₂ : n / 256 / 256 ≡ n / 65536 = omega arith in
+    let e₃ : n / 65536 / 256 ≡ n / 16777216 = omega arith in
+    rw (e₂, e₃)
 
 -- a field within a part of the bytes
 pub field_part : (k w : ℕ) (bs : List ℕ) (at j : ℕ) → at + w ≤ length bs → j + k ≤ w → field k bs (at + j) ≡ field k (take w (drop at bs)) j

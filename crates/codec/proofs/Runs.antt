@@ -1,16 +1,21 @@
 -- What loops make that store numbers of one width one after another, or read them, and that each undoes the other. Assumes nothing.
 use mathlib.Core.Path.{◌≡◌, sym, ap, ◌∙◌}
 use mathlib.Core.List.{List, [], ◌∷◌, ◌++◌, map, append_assoc, append-nil}
-use Prim.Native.Nat.{ℕ, zero, suc, ◌+◌, ◌*◌, ◌<◌}
+use Prim.Native.Nat.{ℕ, zero, suc, ◌+◌, ◌*◌, ◌<◌, ◌≤◌}
 use native.Mathlib.Omega.{arith}
 use native.Mathlib.Numerals.{add-one}
 use lib.ListN.{length, get_or, take, drop, set}
-use lib.Seq.{sets, take-suc, length-take-le, take-add, take_at, drop_at, drop-drop, drop-append-add, ext_get_or}
+use borrow.Rule.Slice.PartMut.{put_mid}
+use lib.Seq.{sets, sets-eq, drop-length, take-length, take-suc, length-take-le, take-add, take_at, drop_at, drop-drop, drop-append-add, ext_get_or}
 use Rattle.lists.specs.Lists.{range, each}
 use Rattle.lists.specs.Bytes.{unle, field}
 use Rattle.lists.proofs.Every.{each_length}
 use Rattle.lists.proofs.Runs.{each_append, length_along, at_along, along_snoc}
-use Rattle.lists.proofs.Stores.{sets_join}
+use Rattle.lists.proofs.Stores.{sets_join, sets_front}
+
+-- what a part of a list holds that is written over by b
+pub put_sets : {A : Type 0} (at k : ℕ) (l b c : List A) → c ≡ b → k ≡ length b → at + length b ≤ length l → put_mid at k l c ≡ sets l at b
+put_sets at k l b c p e h = rw (p, e, drop-drop, sets-eq b l at h, append_assoc)
 
 -- one thing more is read
 pub get_more : {A : Type 0} (v : List A) (h : ℕ → A) (j : ℕ)
@@ -19,6 +24,18 @@ get_more v h j =
     let e : 0 + length (map h (range 0 j)) ≡ j = omega (arith, length_along h 0 j) in
     let m : map h (range 0 (j + 1)) ≡ map h (range 0 j) ++ (h j ∷ []) = ap (λ (k : ℕ). map h (range 0 k)) (add-one j) ∙ along_snoc h j in
     rw m (ap (λ (k : ℕ). set (sets v 0 (map h (range 0 j))) k (h j)) (sym e) ∙ sets_join v (map h (range 0 j)) (h j ∷ []) 0)
+
+-- all are read
+pub get_whole : {A : Type 0} (v : List A) (h : ℕ → A) (j : ℕ) → j ≡ length v → sets v 0 (map h (range 0 j)) ≡ map h (range 0 (length v))
+get_whole v h j e =
+    let n : length (map h (range 0 j)) ≡ length v = length_along h 0 j ∙ e in
+    sets_front v (map h (range 0 j)) (omega arith)
+    ∙ (rw (n, drop-length v, append-nil) (ap (λ (k : ℕ). map h (range 0 k)) e))
+
+-- all are written
+pub put_whole : {A : Type 0} (f : A → List ℕ) (out : List ℕ) (at : ℕ) (v : List A) (j : ℕ) → j ≡ length v
+    → sets out at (each f (take j v)) ≡ sets out at (each f v)
+put_whole f out at v j e = rw (e, take-length v)
 
 -- the thing that the k bytes give which stand i widths after a place
 abbrev pub word_at : {A : Type 0} → (ℕ → A) → ℕ → List ℕ → ℕ → ℕ → A
@@ -33,6 +50,11 @@ module _ {A : Type 0} (f : A → List ℕ) (k : ℕ) (wide : (a : A) → length 
       let e : k * j ≡ length (each f (take j v)) = ap (λ (i : ℕ). k * i) (sym n) ∙ sym (each_length f k wide (take j v)) in
       let m : each f (take (j + 1) v) ≡ each f (take j v) ++ f (get_or v j d) = rw (add-one, take-suc v j d, each_append, append-nil) in
       rw (e, sets_join, m)
+
+  pub put_next : {l₁ l₂ : List ℕ} (out : List ℕ) (at : ℕ) (v : List A) (j : ℕ) (x : A) → j < length v → x ≡ get_or v j x
+      → l₁ ≡ sets out at (each f (take j v)) → l₂ ≡ sets l₁ (at + k * j) (f x) → l₂ ≡ sets out at (each f (take (j + 1) v))
+  put_next out at v j x h e p q =
+      q ∙ rw p (ap (λ (y : A). sets (sets out at (each f (take j v))) (at + k * j) (f y)) e ∙ put_more out at v x j h)
 
   -- the bytes of the thing at i
   pub each_at : (xs : List A) (q : List ℕ) (d : A) (i : ℕ) → i < length xs → take k (drop (k * i) (each f xs ++ q)) ≡ f (get_or xs i d)

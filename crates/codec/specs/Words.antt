@@ -1,9 +1,17 @@
 -- Numbers that a byte or 32 bits hold. Assumes nothing.
-use Rattle.std.specs.Prelude.{List, ℕ, ◌<◌, ℤ, pos, get_or}
+use Rattle.std.specs.Prelude.{List, ℕ, ◌-◌, ◌<◌, ℤ, pos, negsuc, get_or}
 use Rattle.std.specs.Int.{w32}
 use Rattle.std.proofs.Common.{SFits}
 use Rattle.lists.specs.Bytes.{le}
 use Rattle.paper.specs.File.{bits32}
+
+-- a signed 16-bit number as bits, and its two bytes
+unfoldable pub bits16 : ℤ → ℕ
+bits16 (pos n) = n
+bits16 (negsuc n) = 65535 - n
+
+abbrev pub half_bytes : ℤ → List ℕ
+half_bytes w = le 2 (bits16 w)
 
 -- the four bytes of a signed number
 abbrev pub word_bytes : ℤ → List ℕ
