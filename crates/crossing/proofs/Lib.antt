@@ -2,3 +2,4 @@
 pub mod Coordinates
 pub mod Records
 pub mod Rounding
+pub mod Values

@@ -57,8 +57,9 @@ fn solid_and_whole(p: i16, q: i16) -> (u32, u32)
     ensures values { (result.0 ≡ unsigned_abs p) × (result.1 ≡ unsigned_abs q + unsigned_abs p) }
     ensures small { (result.0 ≤ 32768) × (0 < result.1) × (result.1 ≤ 65535) }
 {
-    let n = u32::from(p.unsigned_abs());
-    (n, u32::from(q.unsigned_abs()) + n)
+    let n = -(p as i32);
+    let d = (q as i32) - (p as i32);
+    (n as u32, d as u32)
 }
 
 // t by a rule, for the solid end's value p and the air end's value q.
