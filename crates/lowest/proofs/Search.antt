@@ -2,6 +2,7 @@
 use mathlib.Core.Path.{◌≡◌, refl, sym, ap, ap₂, subst, ◌∙◌}
 use mathlib.Core.Bool.{Bool, true, false, cond, not, ◌&&◌}
 use mathlib.Core.List.{List}
+use Rattle.std.specs.Prelude.{Option, None}
 use Prim.Native.Nat.{ℕ, zero, suc, ◌+◌, ◌-◌, ◌*◌, ◌%◌, ◌^◌, ◌≤◌, ◌<◌}
 use native.Mathlib.Omega.{arith}
 use native.Mathlib.Decide.{dec_lt}
@@ -141,17 +142,10 @@ module _ (off : Bool) (z : Sizes) (rows may : List ℕ) where
           ap (wanted_by off z rows may) (ap (cube_at z) q ∙ cube_place z (place x y w) (omega arith) hy)
           ∙ (sym (wanted_bit m y w x e) ∙ h x hx)
 
--- a loop of the search has come to i of its end: nothing is found, and no cube below k is wanted
-pub record Seeking (off : Bool) (z : Sizes) (rows may : List ℕ) (end found i k : ℕ) : Type 0 where
-  pub upto : i ≤ end
-  pub none : found ≡ cubes z
+-- nothing is found, and no cube below k is wanted
+pub record Seeking (off : Bool) (z : Sizes) (rows may : List ℕ) (found : Option ℕ) (k : ℕ) : Type 0 where
+  pub none : found ≡ None
   pub clear : Clear off z rows may k
-
--- the loop over the first n bits of a row has come to x: nothing is found, and no bit below x is set
-pub record Looking (z : Sizes) (m n found x : ℕ) : Type 0 where
-  pub upto : x ≤ n
-  pub none : found ≡ cubes z
-  pub clear : (i : ℕ) → i < x → bit m i ≡ false
 
 -- ── what that says of the lattice ──
 

@@ -1,22 +1,21 @@
 // The lowest crossed cube, of all or of those off the bounds.
 #![tactic(auto)]
 
-ghost use Rattle.std.specs.Prelude.{◌≡◌, List, ℤ, ◌+◌, ◌*◌, ◌≤◌, ◌<◌, length, get_or};
-ghost use Rattle.paper.specs.Lattice.{lattice, lowest, inner};
+ghost use Rattle.std.specs.Prelude.{◌≡◌, List, ℤ, ◌+◌, ◌*◌, ◌<◌, get_or, IfSome, unwrap_or};
+ghost use Rattle.paper.specs.Lattice.{lattice, cubes, lowest, inner};
 ghost use Rattle.paper.specs.Within.{Sized};
 ghost use Rattle.rows.specs.Rows.{HasBoth, quad_at, crossed_row, inside_row, wanted, wanted_row};
 
 use paper::{Place, Sizes};
+use rows::Rows;
 
 // Whether neither face of the cube at i, on an axis of n samples, is in the bounds.
+#[tactic(auto, unfolding(paper::specs::Lattice::inner))]
 fn is_inner(n: usize, i: usize) -> bool
     requires { i < 64 }
     ensures { result ≡ inner n i }
 {
-    if i == 0 {
-        return false;
-    }
-    i + 2 < n
+    0 < i && i + 2 < n
 }
 
 // The cubes at y and z that have none of their six faces in the lattice's bounds.
@@ -24,47 +23,46 @@ fn inside_row(sizes: Sizes, y: usize, z: usize) -> u64
     requires { Sized sizes × (y < 64) × (z < 64) }
     ensures { result ≡ inside_row sizes y z }
 {
-    let across = is_inner(sizes.ny, y);
-    if !across {
-        return 0;
+    if is_inner(sizes.ny, y) && is_inner(sizes.nz, z) {
+        let low = bits::low_bits(sizes.nx - 2);
+        low - low % 2
+    } else {
+        0
     }
-    let along = is_inner(sizes.nz, z);
-    if !along {
-        return 0;
-    }
-    let low = bits::low_bits(sizes.nx - 2);
-    low - low % 2
 }
 
 // The crossed cubes at y and z, or only those of them that are off the bounds.
-fn wanted_cubes(rows: &[u64], may: &[u64], sizes: Sizes, off: bool, y: usize, z: usize) -> u64
-    requires sized { Sized sizes × (sizes.ny * sizes.nz ≤ length rows.now) × (sizes.ny * sizes.nz ≤ length may.now) }
-    requires y_bound { (y + 1 < sizes.ny) × (z + 1 < sizes.nz) }
-    ensures { let at = y + sizes.ny * z in
-        let m = crossed_row (quad_at rows.now sizes.ny at) (get_or may.now at 0) in
-        result ≡ wanted_row off sizes y z m }
+#[tactic(auto, unfolding(rows::specs::Rows::wanted_row))]
+fn wanted_cubes(rows: &Rows, off: bool, y: usize, z: usize) -> u64
+    requires { (y + 1 < rows.now.sizes.ny) × (z + 1 < rows.now.sizes.nz) }
+    ensures { let n = rows.now.sizes in
+        let at = y + n.ny * z in
+        let m = crossed_row (quad_at rows.now.sides.now n.ny at) (get_or rows.now.cubes.now at 0) in
+        result ≡ wanted_row off n y z m }
 {
-    let m = rows::crossed_cubes(rows, may, sizes, y, z);
+    let m = rows.crossed(y, z);
     if off {
-        return m & inside_row(sizes, y, z);
+        m & inside_row(rows.sizes, y, z)
+    } else {
+        m
     }
-    m
 }
 
-// The number of the lowest crossed cube of the lattice that has these rows, of all or of those off the bounds, or the number of cubes where
-// there is none.
-pub fn lowest_crossed(rows: &[u64], may: &[u64], sizes: Sizes, off: bool) -> usize
-    requires { Sized sizes × (sizes.ny * sizes.nz ≤ length rows.now) × (sizes.ny * sizes.nz ≤ length may.now) }
-    ensures { (s : List ℤ) → let L = lattice sizes s in HasBoth L rows.now may.now → result ≡ lowest sizes (wanted off L) }
+// The number of the lowest crossed cube of the lattice that has these rows, of all or of those off the bounds, where there is one.
+pub fn lowest_crossed(rows: &Rows, off: bool) -> Option<usize>
+    ensures below { IfSome result (λ k. k < cubes rows.now.sizes) }
+    ensures lowest { let n = rows.now.sizes in
+        ((s : List ℤ) → let L = lattice n s in
+        HasBoth L rows.now.sides.now rows.now.cubes.now → unwrap_or result (cubes n) ≡ lowest n (wanted off L)) }
 {
-    let mut found = lattice::cube_count(sizes);
+    let sizes = rows.sizes;
+    let mut found = None;
     'sought: for z in 0..sizes.nz - 1 {
         for y in 0..sizes.ny - 1 {
-            let m = wanted_cubes(rows, may, sizes, off, y, z);
-            let n = rows::to_look_at(m, sizes.nx - 1);
-            for x in 0..n {
+            let m = wanted_cubes(rows, off, y, z);
+            for x in 0..rows::to_look_at(m, sizes.nx - 1) {
                 if bits::has_bit(m, x) {
-                    found = lattice::cube_no(sizes, Place { x: x, y: y, z: z });
+                    found = Some(lattice::cube_no(sizes, Place { x, y, z }));
                     break 'sought;
                 }
             }
