@@ -143,7 +143,7 @@ fn edge_step(steps: &[usize; 36], t: usize, e: usize) -> usize
 }
 
 // The steps of the edges of the triangles of all rows, three to a triangle, six to a row, 96 to a tetrahedron.
-fn row_steps(sizes: Sizes) -> [usize; 576]
+pub fn row_steps(sizes: Sizes) -> [usize; 576]
     requires { Sized sizes }
     ensures { result ≡ row_steps sizes }
 {

@@ -56,7 +56,7 @@ fn put_place(
 }
 
 // The triangles of the first n cubes of a row.
-fn put_row(
+pub fn put_row(
     table: &Table,
     slots: &[u32],
     q: Quad,
