@@ -1,89 +1,69 @@
 -- Tests 1 to 3, then 4 and 5. Assumes nothing.
-use mathlib.Core.Path.{sym, ap, subst, ◌∙◌}
+use mathlib.Core.Path.{◌≡◌, sym, ap, subst, ◌∙◌}
 use mathlib.Core.List.{List}
-use Prim.Native.Nat.{ℕ, ◌*◌, ◌≤◌}
+use Prim.Native.Nat.{ℕ}
 use native.Mathlib.Omega.{arith}
-use native.Mathlib.Nat.{mul-le-mul}
+use borrow.Author.Rules.{rules}
 use lib.Dec.{T}
-use lib.ListN.{length}
+use Rattle.std.specs.Prelude.{Result, Ok, Err, IsErrAnd}
 use Rattle.lists.specs.Lists.{over}
-use Rattle.paper.specs.declared.Sizes.{Sizes}
+use Rattle.paper.specs.declared.Refusal.{Refusal}
+use Rattle.paper.specs.declared.Start.{Start}
 use Rattle.paper.specs.declared.Verdict.{Verdict}
 use Rattle.paper.specs.Lattice.{Lattice, lattice, crossed}
-use Rattle.paper.specs.Within.{Sized, Full}
+use Rattle.paper.specs.Tests.{judge}
+use Rattle.paper.specs.Refused.{verdict_of}
+use Rattle.paper.specs.Room.{Lengths}
+use Rattle.paper.specs.Within.{Full, Roomy}
 use Rattle.rows.specs.Rows.{HasRows, HasFree, HasBoth, free_rows}
 use Rattle.rows.proofs.Cubes.{made_rows, made_free}
 use Rattle.paper.specs.Build.{shape_tests, start_tests, sample_tests}
 use Rattle.paper.proofs.Judged.{judge_past, judge_stop}
 use Rattle.paper.proofs.Passing.{shape_numbered, sample_tests_law}
+use Rattle.ready.specs.Ready.{cube_told, Shaped, Chosen, Readied}
+use Rattle.ready.proofs.Refusals.{some_number}
 use Rattle.ready.proofs.begin.Goals as goal
-use Rattle.ready.proofs.begin.Goals.{After-sample_rows, Else-number-ne0}
 
-pub returns-then-number-ne0 : goal.returns-then-number-ne0
-unfolding sample_tests
-returns-then-number-ne0 c =
-    let s = c.shape-number.ensures in
-    record {
-      answer =
-          s.answer
-          ∙ sym (ap (λ (v : Verdict). v.number) (judge_stop (shape_tests _ _) (start_tests _ _) (λ e. c.if-number-ne0.true (s.answer ∙ e))));
-      begins = λ e. absurd (c.if-number-ne0.true e);
-    }
+module _ (L : Lattice) (s : Start) (n : Lengths) (rows may : List ℕ) where
+  -- a test of the first three fails
+  stopped : (e : Refusal) (r : Result ℕ Refusal) → Shaped L n (Err e) → IsErrAnd r (λ x. x ≡ e) → Readied L s n rows may r
+  unfolding sample_tests
+  stopped e (Ok k) t h = absurd h
+  stopped e (Err x) t h =
+      let q = ap (λ (v : Verdict). v.number) t.answer in
+      let k : (judge (shape_tests L n)).number ≡ 0 → ⊥ = λ z. omega (arith, some_number e, q) in
+      record { answer = ap verdict_of h ∙ t.answer ∙ sym (judge_stop (shape_tests L n) (start_tests L s) k); begins = tt }
 
--- the rows fit
-fits : (z : Sizes) → Sized z → (n : ℕ) → 4096 ≤ n → z.ny * z.nz ≤ n
-fits z s n h = omega (arith, mul-le-mul {n₂ = 64} {m₂ = 64} s.y_high s.z_high)
+  -- they are passed
+  past : (r : Result ℕ Refusal) → Full L → Roomy L.size n → HasBoth L rows may → Chosen L s r → cube_told r ≡ judge (sample_tests L s n) → Readied L s n rows may r
+  past (Err e) f m b w a = record { answer = a; begins = tt }
+  past (Ok k) f m b w a = record {
+    answer = a;
+    begins = record {
+      full = f;
+      both = b;
+      roomy = m;
+      is = w.is;
+      below = w.below;
+      crosses = subst (λ (k : ℕ). T (crossed L k)) (sym w.is) (sample_tests_law L s n (ap (λ (v : Verdict). v.number) (sym a))).crosses;
+    };
+  }
 
-abbrev full : (c : goal.Else-number-ne0) → Full (lattice c.args.sizes c.args.samples.now)
-full c = c.shape-number.ensures.full c.if-number-ne0.false
-
--- both slices have room for all rows
-rows_fit : (c : goal.Else-number-ne0) → let s = c.args in s.sizes.ny * s.sizes.nz ≤ length s.rows.now
-rows_fit c = fits _ (full c).sized _ c.requires.0
-
-may_fits : (c : goal.Else-number-ne0) → let s = c.args in s.sizes.ny * s.sizes.nz ≤ length s.may.now
-may_fits c = fits _ (full c).sized _ c.requires.1
-
-pub sample_rows-requires : goal.sample_rows-requires
-sample_rows-requires c = (full (goal.at.sample_rows-requires c).Else-number-ne0, rows_fit (goal.at.sample_rows-requires c).Else-number-ne0, may_fits (goal.at.sample_rows-requires c).Else-number-ne0)
-
-abbrev lat : goal.After-sample_rows → Lattice
-lat c = let a = c.args in lattice a.sizes a.samples.now
-
-pub free_rows-requires : goal.free_rows-requires
-free_rows-requires c =
-    ((full (goal.at.free_rows-requires c).Else-number-ne0).sized, omega (arith, may_fits (goal.at.free_rows-requires c).Else-number-ne0, c.sample_rows.auto))
-
-pub choose-requires : goal.choose-requires
-choose-requires c =
-    ((full (goal.at.choose-requires c).Else-number-ne0).sized, omega (arith, rows_fit (goal.at.choose-requires c).Else-number-ne0, c.sample_rows.auto), omega (arith, may_fits (goal.at.choose-requires c).Else-number-ne0, c.sample_rows.auto, c.free_rows.auto))
+pub returns-in_err-shape : goal.returns-in_err-shape
+returns-in_err-shape c = stopped _ _ _ _ _ _ _ c.in_err-shape.ensures c.from_residual.ensures.1
 
 pub returns : goal.returns
 unfolding sample_tests
 returns c =
-    let L = lat (goal.at.returns c).After-sample_rows in
-    let s = c.shape-number.ensures in
+    let a = c.args in
+    let L = lattice a.sizes a.samples.now in
+    let s = c.in_ok-shape.ensures in
     let made = c.sample_rows.ensures in
     let both : HasBoth L _ _ = record {
-      sides = subst (HasRows L) (sym made.0) (made_rows L _ (rows_fit (goal.at.returns c).Else-number-ne0));
+      sides = subst (HasRows L) (sym made.0) (made_rows L _ (search rules));
       free = subst (HasFree L) (sym (c.free_rows.ensures ∙ ap (λ (l : List ℕ). over (free_rows L.size l) l) made.1))
-          (made_free L _ (may_fits (goal.at.returns c).Else-number-ne0));
+          (made_free L _ (search rules));
     } in
     let w = c.choose.ensures.of _ both in
-    let passed = c.if-number-ne0.false in
-    let answer =
-    w.answer
-    ∙ sym (ap (λ (v : Verdict). v.number)
-    (judge_past (shape_tests _ _) (start_tests _ _) (shape_numbered _ _) (sym s.answer ∙ passed))) in
-    record {
-      answer = answer;
-      begins = λ e.
-          record {
-            full = full (goal.at.returns c).Else-number-ne0;
-            both = both;
-            roomy = s.roomy passed;
-            is = w.is e;
-            below = w.below e;
-            crosses = subst (λ (k : ℕ). T (crossed L k)) (sym (w.is e)) (sample_tests_law L _ _ (sym answer ∙ e)).crosses;
-          };
-    }
+    past L a.start _ _ _ _ s.full s.roomy both w
+    (w.answer ∙ sym (judge_past (shape_tests _ _) (start_tests _ _) (shape_numbered _ _) (ap (λ (v : Verdict). v.number) (sym s.answer))))

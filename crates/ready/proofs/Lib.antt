@@ -1,0 +1,2 @@
+-- What a refusal says (Refusals).
+pub mod Refusals
