@@ -64,6 +64,7 @@ impl Number for u32 {
 
     ghost of = { λ n. n };
 
+    #[tactic(auto, using(crate::proofs::Bytes::le_four, crate::proofs::Runs::put_sets))]
     fn put(self, out: &mut [u8], at: usize) {
         out[at..at + 4].copy_from_slice(&self.to_le_bytes());
     }
