@@ -1,6 +1,6 @@
 -- Laws of the loop and of the tests. Assumes nothing.
 use mathlib.Core.Path.{◌≡◌, refl, sym, subst, ap, ◌∙◌}
-use mathlib.Core.Bool.{not}
+use mathlib.Core.Bool.{true, false, not}
 use mathlib.Core.List.{List, [], ◌∷◌, ◌++◌, map}
 use Prim.Native.Nat.{ℕ, zero, suc, ◌<◌}
 use native.Mathlib.Nat.{le_of_suc-le-suc}
@@ -12,8 +12,14 @@ use lib.ListN.{length, get_or, take, drop, set, length-map}
 use lib.Seq.{take-length}
 use lib.Ieee.{Float, nan}
 use Rattle.lists.specs.Lists.{over}
-use Rattle.lists.proofs.Firsts.{first_before}
+use Rattle.std.specs.Prelude.{Option, Some, None, MatchOption, unwrap_or}
+use Rattle.std.specs.List.{AllWithin, HoldsAt}
+use Rattle.lists.proofs.Firsts.{first_before, first_found, first_missing}
 use Rattle.paper.specs.declared.Verdict.{Verdict}
+use Rattle.paper.specs.declared.Refusal.{Refusal}
+use Rattle.paper.specs.declared.Refusal.TheVariants.{Axes, SampleCount, WorkRoom, NoCube, NotCrossed, VertexRoom, TriangleRoom, ByteRoom, CountLimit, ShortFile, Mark, Layout}
+use Rattle.paper.specs.declared.Refusal.TheVariants.{Index, OtherSizes, Record, Triangle, Absent, Grey, LevelOrder, Coordinate, Scale}
+use Rattle.paper.specs.Refused.{verdict_of}
 use Rattle.paper.specs.Tests.{Test, test, test_at, judge}
 use Rattle.paper.specs.Room.{output_after}
 use Rattle.paper.proofs.Judged.{Numbered, Passed, judge_all}
@@ -46,10 +52,45 @@ module _ {A B : Type 0} (f : A → B) where
 
 -- ── the tests ──
 
+-- no refusal has the number 0
+pub told : (e : Refusal) → 0 < (verdict_of e).number
+told e = elim e as (λ (k : Refusal). 0 < (verdict_of k).number) [
+  | Axes ↦ omega arith
+  | SampleCount ↦ omega arith
+  | WorkRoom ↦ omega arith
+  | NoCube ↦ omega arith
+  | NotCrossed ↦ omega arith
+  | VertexRoom ↦ omega arith
+  | TriangleRoom ↦ omega arith
+  | ByteRoom ↦ omega arith
+  | CountLimit ↦ omega arith
+  | ShortFile ↦ omega arith
+  | Mark ↦ omega arith
+  | Layout ↦ omega arith
+  | Index i ↦ omega arith
+  | OtherSizes ↦ omega arith
+  | Record i ↦ omega arith
+  | Triangle i ↦ omega arith
+  | Absent ↦ omega arith
+  | Grey i ↦ omega arith
+  | LevelOrder ↦ omega arith
+  | Coordinate i ↦ omega arith
+  | Scale ↦ omega arith
+]
+
 pub all_greys : (vs : List Float) → first_bad vs ≡ length vs → AllGreys vs
 unfolding first_bad
 all_greys vs e i h =
     not-false _ (first_before (λ k. not (is_grey (get_or vs k nan))) (length vs) i (subst (λ (n : ℕ). i < n) (sym e) h))
+
+-- the first voxel that is no grey, or none
+pub first_is : (vs : List Float) (r : Option ℕ)
+    → MatchOption r (AllWithin (λ v. is_grey v ≡ true) vs 0 (length vs))
+    (λ i. (i < length vs) × HoldsAt (λ v. is_grey v ≡ false) vs i × AllWithin (λ v. is_grey v ≡ true) vs 0 i)
+    → unwrap_or r (length vs) ≡ first_bad vs
+unfolding first_bad
+first_is vs None good = first_missing _ _ (λ k h. ap not (good k nan (omega arith) h))
+first_is vs (Some i) (h, bad, good) = first_found _ _ i h (λ k g. ap not (good k nan (omega arith) g)) (ap not (bad nan))
 
 module _ (l : Level) (n : ℕ) (vs : List Float) where
   abbrev pub convert_tests : ℕ → ℕ → List Test

@@ -1,38 +1,30 @@
 -- `floats::convert` meets its contract: a refusal stores nothing, and what passes the tests is converted whole. Assumes nothing.
-use mathlib.Core.Path.{◌≡◌, sym, subst, ap, ◌∙◌}
+use mathlib.Core.Path.{refl, sym, subst, ap, ◌∙◌}
 use mathlib.Core.List.{map}
 use native.Mathlib.Omega.{arith}
+use Rattle.std.proofs.lemmas.Result.{err_from_is_err_and}
 use lib.Ieee.{Float}
-use lib.ListN.{length}
 use Rattle.lists.specs.Lists.{over}
-use Rattle.greys.specs.Level.{level_of}
 use Rattle.greys.specs.Sample.{sample_of}
 use Rattle.greys.specs.Within.{Fine}
-use Rattle.greys.proofs.Converting.{refused, fine, done}
+use Rattle.greys.proofs.Converting.{told, refused, fine, done}
 use Rattle.floats.proofs.convert.Goals as goal
-use Rattle.floats.proofs.convert.Goals.{Else-v-ne0}
 
-accepted : (c : goal.Else-v-ne0)
-    → let a = c.args in
-    Fine (level_of a.level) a.scale a.voxels.now × (length a.voxels.now ≡ length a.samples.now)
-accepted c =
+pub returns-in_err-convertible : goal.returns-in_err-convertible
+returns-in_err-convertible c =
     let a = c.args in
-    fine a.level a.scale a.voxels.now a.samples.now _ c.convertible-v.ensures c.if-v-ne0.false
-
-pub returns-then-v-ne0 : goal.returns-then-v-ne0
-returns-then-v-ne0 c =
-    let a = c.args in
-    refused a.level a.scale a.voxels.now a.samples.now _ c.convertible-v.ensures c.if-v-ne0.true
+    let p = err_from_is_err_and c.from_residual.result c.from_residual.ensures.1 in
+    rw (p.1, p.2) (refused a.level a.scale a.voxels.now a.samples.now _ c.in_err-convertible.ensures (λ q. omega (arith, told)))
 
 pub put_samples-requires : goal.put_samples-requires
 put_samples-requires c =
     let a = c.args in
-    let f = accepted (goal.at.put_samples-requires c).Else-v-ne0 in
+    let f = fine a.level a.scale a.voxels.now a.samples.now _ c.in_ok-convertible.ensures refl in
     (subst (λ (g : Float). Fine g a.scale a.voxels.now) (sym c.level_of-g.ensures) f.0, omega (arith, f.1))
 
 pub returns : goal.returns
 returns c =
     let a = c.args in
-    done a.level a.scale a.voxels.now a.samples.now _ c.convertible-v.ensures c.if-v-ne0.false _
+    done a.level a.scale a.voxels.now a.samples.now _ c.in_ok-convertible.ensures refl _
     (c.put_samples.ensures
     ∙ ap (λ (g : Float). over (map (sample_of g a.scale) a.voxels.now) a.samples.now) c.level_of-g.ensures)

@@ -2,16 +2,9 @@
 -- Assumes nothing.
 use mathlib.Core.Path.{◌≡◌}
 use mathlib.Core.List.{◌++◌, map}
-use Prim.Native.Nat.{◌-◌, ◌≤◌}
-use lib.ListN.{length, take, drop}
+use lib.ListN.{take, drop}
 use Rattle.greys.specs.Sample.{sample_of}
 use Rattle.floats.proofs.put_samples.Given as goal
 
 abbrev pub invariant-loop-i : goal.invariant-loop-i
-invariant-loop-i l =
-    (l.i ≤ length l.voxels)
-    × (length l.samples ≡ length l.initial.samples)
-    × (l.samples ≡ map (sample_of l.level l.scale) (take l.i l.voxels) ++ drop l.i l.initial.samples)
-
-abbrev pub decreases-loop-i : goal.decreases-loop-i
-decreases-loop-i l = length l.voxels - l.i
+invariant-loop-i l = l.samples ≡ map (sample_of l.level l.scale) (take l.i l.voxels) ++ drop l.i l.initial.samples
