@@ -1,16 +1,17 @@
 -- How many edges of a row have a vertex. Assumes nothing.
-use mathlib.Core.Path.{◌≡◌, refl, ap, ◌∙◌}
+use mathlib.Core.Path.{◌≡◌, refl, sym, ap, ◌∙◌}
 use mathlib.Core.Bool.{Bool, true, false}
 use mathlib.Core.List.{List, [], ◌∷◌}
 use Prim.Native.Nat.{ℕ, zero, suc, ◌+◌, ◌*◌, ◌/◌, ◌%◌, ◌^◌, ◌<◌}
 use native.Mathlib.Omega.{arith}
+use native.Mathlib.Numerals.{add-one}
 use lib.Count.{ones}
 use lib.ListN.{length, get_or}
 use Rattle.lists.specs.Lists.{range, cons_if, keep, count}
 use Rattle.lists.proofs.Runs.{range_join}
 use Rattle.lists.proofs.Counts.{count_append}
 use Rattle.paper.specs.Sheet.{weight}
-use Rattle.bits.specs.Words.{bit}
+use Rattle.bits.specs.Words.{bit, total}
 use Rattle.bits.proofs.Counts.{ones_bits}
 use Rattle.kinds.specs.declared.KindWords.{KindWords}
 use Rattle.kinds.specs.Kinds.{seven, is_edge}
@@ -92,29 +93,42 @@ module _ (f : ℕ → ℕ → Bool) where
         count_one (f 6) n,
       )
 
--- seven words that fit
-pub record Words (k : KindWords) : Type 0 where
-  pub k0 : k.k0 < 2 ^ 64
-  pub k1 : k.k1 < 2 ^ 64
-  pub k2 : k.k2 < 2 ^ 64
-  pub k3 : k.k3 < 2 ^ 64
-  pub k4 : k.k4 < 2 ^ 64
-  pub k5 : k.k5 < 2 ^ 64
-  pub k6 : k.k6 < 2 ^ 64
+-- ── a total of one part more ──
 
-pub edges_count : (k : KindWords) → Words k
-    → ones k.k0 + ones k.k1 + ones k.k2 + ones k.k3 + ones k.k4 + ones k.k5 + ones k.k6
-    ≡ count (is_edge k) (range 0 448)
-unfolding is_edge
+pub total_none : (f : ℕ → ℕ) → total f 0 ≡ 0
+unfolding total
+total_none f = refl
+
+pub total_more : (f : ℕ → ℕ) (n : ℕ) → total f (suc n) ≡ total f n + f n
+unfolding total
+total_more f zero = omega arith
+total_more f (suc n) = omega (arith, total_more (λ x. f (suc x)) n)
+
+-- ── the edges of the first n words ──
+
+unfoldable pub counted : KindWords → ℕ → ℕ
+counted k n = total (λ j. ones (get_or (seven k) j 0)) n
+
+pub counted_none : (k : KindWords) → 0 ≡ counted k 0
+unfolding counted
+counted_none k = sym (total_none (λ j. ones (get_or (seven k) j 0)))
+
+pub counted_more : (k : KindWords) (n : ℕ) → counted k (n + 1) ≡ counted k n + ones (get_or (seven k) n 0)
+unfolding counted
+counted_more k n = ap (total (λ j. ones (get_or (seven k) j 0))) (add-one n) ∙ total_more (λ j. ones (get_or (seven k) j 0)) n
+
+pub edges_count : (k : KindWords) → ((j : ℕ) → j < 7 → get_or (seven k) j 0 < 2 ^ 64) → counted k 7 ≡ count (is_edge k) (range 0 448)
+unfolding counted total is_edge
 edges_count k h =
+    let w = seven k in
     omega (
       arith,
-      by_kinds (λ j x. bit (get_or (seven k) j 0) x) 64,
-      ones_bits k.k0 64 h.k0,
-      ones_bits k.k1 64 h.k1,
-      ones_bits k.k2 64 h.k2,
-      ones_bits k.k3 64 h.k3,
-      ones_bits k.k4 64 h.k4,
-      ones_bits k.k5 64 h.k5,
-      ones_bits k.k6 64 h.k6,
+      by_kinds (λ j x. bit (get_or w j 0) x) 64,
+      ones_bits (get_or w 0 0) 64 (h 0 (omega arith)),
+      ones_bits (get_or w 1 0) 64 (h 1 (omega arith)),
+      ones_bits (get_or w 2 0) 64 (h 2 (omega arith)),
+      ones_bits (get_or w 3 0) 64 (h 3 (omega arith)),
+      ones_bits (get_or w 4 0) 64 (h 4 (omega arith)),
+      ones_bits (get_or w 5 0) 64 (h 5 (omega arith)),
+      ones_bits (get_or w 6 0) 64 (h 6 (omega arith)),
     )

@@ -1,7 +1,8 @@
 -- The edges with a vertex of a row of anchors, as seven words. Assumes nothing.
-use Rattle.std.specs.Prelude.{◌≡◌, Bool, cond, ◌&&◌, List, [], ◌∷◌, ℕ, ◌+◌, ◌-◌, ◌*◌, ◌/◌, ◌%◌, ◌<◌, leb, ltb, get_or}
+use Rattle.std.specs.Prelude.{◌≡◌, Bool, cond, ◌&&◌, List, [], ◌∷◌, ℕ, ◌+◌, ◌-◌, ◌*◌, ◌/◌, ◌%◌, ◌<◌, leb, ltb, get_or, map, fold}
 use Rattle.std.specs.Bool.{xor}
-use Rattle.lists.specs.Lists.{any}
+use Rattle.std.specs.Int.Bits.{bit_or}
+use Rattle.lists.specs.Lists.{any, range}
 use Rattle.paper.specs.declared.Sizes.{Sizes}
 use Rattle.paper.specs.declared.Place.{Place}
 use Rattle.paper.specs.Lattice.{Lattice, place}
@@ -34,22 +35,18 @@ kind_bit f v j x =
     xor (corner_bit f x k.a) (corner_bit f x k.b) && any (cube_bit v x) (get_or anchors j [])
 
 unfoldable pub kinds_of : Quad → Quad → KindWords
-kinds_of f v = record {
-  k0 = word (kind_bit f v 0) 64;
-  k1 = word (kind_bit f v 1) 64;
-  k2 = word (kind_bit f v 2) 64;
-  k3 = word (kind_bit f v 3) 64;
-  k4 = word (kind_bit f v 4) 64;
-  k5 = word (kind_bit f v 5) 64;
-  k6 = word (kind_bit f v 6) 64;
-}
+kinds_of f v = record { words = map (λ j. word (kind_bit f v j) 64) (range 0 7) }
 
 -- the seven words, and whether edge i of the row has a vertex: i is 7 · x + kind
 abbrev pub seven : KindWords → List ℕ
-seven k = k.k0 ∷ k.k1 ∷ k.k2 ∷ k.k3 ∷ k.k4 ∷ k.k5 ∷ k.k6 ∷ []
+seven k = k.words
 
 unfoldable pub is_edge : KindWords → ℕ → Bool
 is_edge k i = bit (get_or (seven k) (i % 7) 0) (i / 7)
+
+-- the places that one of the seven words has
+abbrev pub any_of : KindWords → ℕ
+any_of k = fold bit_or 0 (seven k)
 
 -- ── of a lattice and its visited cubes ──
 

@@ -12,19 +12,8 @@ use Rattle.lists.proofs.Runs.{keep_snoc, each_append}
 use Rattle.paper.specs.Sheet.{weight}
 use Rattle.bits.specs.Words.{total}
 use Rattle.kinds.proofs.Triangles.{total_ext}
-use Rattle.kinds.proofs.KindCounts.{count_join}
+use Rattle.kinds.proofs.KindCounts.{count_join, total_none, total_more}
 use Rattle.tally.specs.Tally.{Summed}
-
--- no part
-total_none : (f : ℕ → ℕ) → total f 0 ≡ 0
-unfolding total
-total_none f = refl
-
--- one part more
-pub total_more : (f : ℕ → ℕ) (n : ℕ) → total f (suc n) ≡ total f n + f n
-unfolding total
-total_more f zero = omega arith
-total_more f (suc n) = omega (arith, total_more (λ x. f (suc x)) n)
 
 total_join : (f : ℕ → ℕ) (m n : ℕ) → total f (m + n) ≡ total f m + total (λ x. f (m + x)) n
 total_join f m zero =
