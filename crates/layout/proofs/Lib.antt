@@ -2,3 +2,4 @@
 pub mod Flags
 pub mod Trailer
 pub mod Passing
+pub mod Found

@@ -219,12 +219,7 @@ impl SheetFile<'_> {
         if self.all_below() {
             return None;
         }
-        for i in 0..self.triangles {
-            if self.is_bad(i) {
-                return Some(i);
-            }
-        }
-        None
+        (0..self.triangles).find(|i| self.is_bad(*i))
     }
 }
 

@@ -1,8 +1,11 @@
 -- No triangle is bad where all numbers are below V. Assumes nothing.
-use Rattle.std.proofs.Common.{◌≡◌, false, ℕ, ◌+◌, ◌*◌, ◌<◌, List, get_or, arith, sym, ◌∙◌}
-use borrow.Author.Tests.{lt-leb}
-use Rattle.paper.specs.File.{bad_triangle}
-use Rattle.layout.proofs.Trailer.{bad_is, bad_found, bad_missing}
+use Rattle.std.proofs.Common.{◌≡◌, false, ℕ, ◌+◌, ◌*◌, ◌<◌, List, get_or, arith, ◌∙◌}
+use Rattle.std.proofs.Common.{rules, true}
+use Rattle.std.proofs.lemmas.Iterator.{first_from_Range}
+use borrow.Author.Tests.{lt-leb, tests}
+use Rattle.paper.specs.File.{bad_triangle, first_bad, file_triangles}
+use Rattle.layout.proofs.Trailer.{bad_is, bad_missing}
+use Rattle.layout.proofs.Found.{found_first}
 use Rattle.layout.proofs.SheetFile.first_bad.Goals as goal
 
 good : (nv nt : ℕ) (ts : List ℕ) → ((j : ℕ) → j < 3 * nt → get_or ts j 0 < nv) → (k : ℕ) → k < nt → bad_triangle nv ts k ≡ false
@@ -17,9 +20,10 @@ good nv nt ts h k l =
 pub returns-then-all_below-clause-first : goal.returns-then-all_below-clause-first
 returns-then-all_below-clause-first c = bad_missing _ _ _ (good _ _ _ (c.all_below.ensures c.if-all_below.true))
 
-pub returns-then-is_bad-clause-first : goal.returns-then-is_bad-clause-first
-returns-then-is_bad-clause-first c =
-    bad_found _ _ _ c.loop-i.i c.loop-i-test.true c.loop-i.invariant (sym c.is_bad.ensures ∙ c.if-is_bad.true)
-
 pub returns-clause-first : goal.returns-clause-first
-returns-clause-first c = bad_missing _ _ _ (λ k h. c.loop-i.invariant k (omega arith))
+unfolding first_bad
+returns-clause-first c =
+    let f = c.args.self.now in
+    let p = bad_triangle f.vertices (file_triangles f.bytes.now) in
+    found_first p f.triangles c.find.result
+    (first_from_Range _ _ _ c.find.result (λ i. p i ≡ true) (λ i. p i ≡ false) c.find.ensures.ran (λ x q k. search (rules, tests)) (λ x q k. search (rules, tests)))
