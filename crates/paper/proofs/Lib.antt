@@ -8,6 +8,7 @@ pub mod Tables
 pub mod Edges
 pub mod Crossing
 pub mod Records
+pub mod Refusals
 pub mod Listing
 pub mod Limits
 pub mod Visits
