@@ -25,6 +25,10 @@ next_row z r (suc zero) = r + 1
 next_row z r (suc (suc zero)) = r - z.ny
 next_row z r (suc (suc (suc k))) = r + z.ny
 
+-- none out of row r leads nowhere, by a door that is closed
+abbrev pub no_way : ℕ → Out
+no_way r = record { to = r; door = 0 }
+
 -- a way out of row r: where there is one, to another row, by a door
 abbrev pub way_by : Bool → ℕ → ℕ → ℕ → Out
 way_by there to r door = record { to = cond there to r; door = cond there door 0 }

@@ -1,15 +1,15 @@
 // The ways from a row of cubes: through the gates of the row, and through the doors to the four rows beside it, which then wait.
 #![tactic(auto)]
 
-ghost use Rattle.std.specs.Prelude.{◌≡◌, true, ◌+◌, ◌-◌, ◌≤◌, ◌<◌, length, get_or};
+ghost use Rattle.std.specs.Prelude.{◌≡◌, ◌≤◌, ◌<◌, length, get_or, unwrap_or};
 ghost use Rattle.paper.specs.Within.{Sized};
 ghost use Rattle.bits.specs.Words.{less};
 ghost use Rattle.ways.specs.Along.{Filled};
 ghost use Rattle.ways.specs.Flow.{flow, wait, sends, Roomy};
-ghost use Rattle.ways.specs.Ways.{way_by, way_at, door_by, beside_by, words, rows_of, is_row, RowIn};
+ghost use Rattle.ways.specs.Ways.{no_way, way_at, door_by, beside_by, words, rows_of, is_row, RowIn};
 
 use paper::Sizes;
-use rows::Quad;
+use rows::{Quad, Rows};
 
 // A way out of a row of cubes.
 #[derive(Clone, Copy)]
@@ -18,38 +18,11 @@ pub struct Out {
     pub door: u64,
 }
 
-// The way to the row d rows before r, where there is one.
-fn back(there: bool, r: usize, d: usize, door: u64) -> Out
-    requires { there ≡ true → d ≤ r }
-    ensures { result ≡ way_by there (r - d) r door }
-{
-    if there {
-        return Out {
-            to: r - d,
-            door: door,
-        };
-    }
-    Out { to: r, door: 0 }
-}
-
-// The way to the row d rows after r, where there is one.
-fn fore(there: bool, r: usize, d: usize, door: u64) -> Out
-    requires { (r ≤ 4096) × (d ≤ 64) }
-    ensures { result ≡ way_by there (r + d) r door }
-{
-    if there {
-        return Out {
-            to: r + d,
-            door: door,
-        };
-    }
-    Out { to: r, door: 0 }
-}
-
 // The places that open gates lead to from those of `from`.
 pub fn filled(from: u64, gate: u64) -> u64
     ensures { Filled from gate result }
 {
+    // A while: each round makes the next word, until one adds nothing.
     let mut f = from;
     let mut g = f | ((f << 1) & gate) | ((f & gate) >> 1);
     while g != f {
@@ -60,6 +33,7 @@ pub fn filled(from: u64, gate: u64) -> u64
 }
 
 // The places f of row r become due, and the row waits, if it does not yet.
+#[tactic(auto, unfolding(crate::specs::Flow::wait))]
 pub fn wait_row(due: &mut [u64], waiting: &mut [u32], h: usize, r: usize, f: u64) -> usize
     requires { (r < length due.old) × (r < 4294967296) × (get_or due.old r 0 ≡ 0 → h < length waiting.old) }
     ensures { let before = flow due.old waiting.old h in
@@ -90,29 +64,26 @@ fn send(vis: &[u64], due: &mut [u64], waiting: &mut [u32], h: usize, to: usize, 
     wait_row(due, waiting, h, to, m & !v)
 }
 
-// The way out of row r by door k: at the low and the high y end, at the low and the high z end.
-fn way(z: Sizes, q: Quad, r: usize, k: usize) -> Out
+// The way out of row r by door k, where there is one: at the low and the high y end, at the low and the high z end.
+#[tactic(auto, unfolding(crate::specs::Ways::is_way, crate::specs::Ways::next_row))]
+fn way(z: Sizes, q: Quad, r: usize, k: usize) -> Option<Out>
     requires { Sized z × RowIn z r × (k < 4) }
-    ensures { result ≡ way_at z q r k }
+    ensures { unwrap_or result (no_way r) ≡ way_at z q r k }
 {
-    let m = rows::face_row(q, k + 2);
-    if k == 0 {
-        return back(0 < r % z.ny, r, 1, m);
+    let door = q.faces(k + 2);
+    match k {
+        0 if 0 < r % z.ny => Some(Out { to: r - 1, door }),
+        1 if r % z.ny + 2 < z.ny => Some(Out { to: r + 1, door }),
+        2 if 0 < r / z.ny => Some(Out { to: r - z.ny, door }),
+        3 if r / z.ny + 2 < z.nz => Some(Out { to: r + z.ny, door }),
+        _ => None,
     }
-    if k == 1 {
-        return fore(r % z.ny + 2 < z.ny, r, 1, m);
-    }
-    if k == 2 {
-        return back(0 < r / z.ny, r, z.ny, m);
-    }
-    fore(r / z.ny + 2 < z.nz, r, z.ny, m)
 }
 
 // The places f of row r pass the doors of the row, to cubes that may be visited.
 pub fn pass_doors(
-    z: Sizes,
+    rows: &Rows,
     q: Quad,
-    may: &[u64],
     vis: &[u64],
     due: &mut [u64],
     waiting: &mut [u32],
@@ -120,20 +91,19 @@ pub fn pass_doors(
     r: usize,
     f: u64,
 ) -> usize
-    requires sized { Sized z × RowIn z r × (words z ≤ length vis.now) × (words z ≤ length may.now) }
-    requires roomy { Roomy (words z) (rows_of z) (is_row z) (flow due.old waiting.old height) }
-    ensures { let before = flow due.old waiting.old height in
+    requires sized { let z = rows.now.sizes in RowIn z r × (words z ≤ length vis.now) }
+    requires roomy { let z = rows.now.sizes in Roomy (words z) (rows_of z) (is_row z) (flow due.old waiting.old height) }
+    ensures { let z = rows.now.sizes in
+        let before = flow due.old waiting.old height in
         let after = flow due.new waiting.new result in
-        after ≡ sends vis.now (door_by z may.now q r) (beside_by z q r) f 4 before }
+        after ≡ sends vis.now (door_by z rows.now.cubes.now q r) (beside_by z q r) f 4 before }
 {
     let mut h = height;
-    let mut k = 0;
-    while k < 4 {
-        let w = way(z, q, r, k);
-        let to = w.to;
-        let m = may[to];
-        h = send(vis, due, waiting, h, to, f & (w.door & m));
-        k += 1;
+    for k in 0..4 {
+        if let Some(w) = way(rows.sizes, q, r, k) {
+            let m = rows.cubes[w.to];
+            h = send(vis, due, waiting, h, w.to, f & (w.door & m));
+        }
     }
     h
 }

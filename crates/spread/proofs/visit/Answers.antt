@@ -20,26 +20,25 @@ may_same L j k e t = subst (λ (k : ℕ). T (visitable L (cube_at L.size k))) (s
 
 pub flood_from-requires : goal.flood_from-requires
 flood_from-requires c =
-    let p = c.requires.sized in record {
-      sized = (p.0, c.cube_at-at.ensures.1, p.2, p.3);
-      empty = (c.requires.empty.0, omega (arith, rows_few c.args.z p.0, c.requires.empty.1));
-    }
+    let r = c.args.rows.now in
+    record { at_in = c.cube_at.ensures.1; empty = (c.requires.empty.0, omega (arith, rows_few r.sizes r.sized, c.requires.empty.1)) }
 
 pub returns : goal.returns
 returns c =
-    let z = c.args.z in
-    let p = c.requires.sized in
+    let z = c.args.rows.now.sizes in
+    let s = c.args.rows.now.sized in
+    let p = c.requires.k_below in
     let f = c.flood_from in
-    let e : cube_no z c.cube_at-at.result ≡ c.args.k =
-    ap (cube_no z) c.cube_at-at.ensures.0 ∙ cube_back z p.0 c.args.k p.1 in
+    let e : cube_no z c.cube_at.result ≡ c.args.k =
+    ap (cube_no z) c.cube_at.ensures.0 ∙ cube_back z s c.args.k p in
     record {
-      stands = λ s h t.
+      stands = λ v h t.
           record {
-            below = p.1;
+            below = p;
             sides = h.sides;
-            cubes = from_same (lattice z s) _ _ e _ (f.ensures.visits s h (may_same (lattice z s) _ _ e t)).cubes;
+            cubes = from_same (lattice z v) _ _ e _ (f.ensures.visits v h (may_same (lattice z v) _ _ e t)).cubes;
           };
-      number = λ s h t.
-          (f.ensures.visits s h (may_same (lattice z s) _ _ e t)).number ∙ ap (λ (k : ℕ). length (visited (lattice z s) k)) e;
-      beyond = beyond_more _ _ _ _ (rows_few z p.0) f.ensures.on_waiting;
+      number = λ v h t.
+          (f.ensures.visits v h (may_same (lattice z v) _ _ e t)).number ∙ ap (λ (k : ℕ). length (visited (lattice z v) k)) e;
+      beyond = beyond_more _ _ _ _ (rows_few z s) f.ensures.on_waiting;
     }
