@@ -5,6 +5,7 @@ use mathlib.Core.List.{List, [], ◌∷◌, ◌++◌}
 use Prim.Native.Nat.{ℕ, zero, suc, ◌+◌, ◌*◌, ◌/◌, ◌%◌, ◌≤◌, ◌<◌}
 use native.Mathlib.Omega.{arith}
 use lib.Bits.{bit_or}
+use Rattle.std.specs.List.{fold}
 use lib.Dec.{T, eqb, eqb_refl}
 use lib.ListN.{length, get_or}
 use Rattle.lists.specs.Lists.{range, any, each, is_in}
@@ -14,20 +15,20 @@ use Rattle.lists.proofs.Closure.{length_range}
 use Rattle.paper.specs.declared.Sizes.{Sizes}
 use Rattle.paper.specs.declared.Place.{Place}
 use Rattle.paper.specs.Lattice.{Lattice, sample_no, sample_at}
-use Rattle.paper.specs.Sheet.{weight, anchor_of, kind_in, ends_of}
+use Rattle.paper.specs.Sheet.{anchor_of, kind_in, ends_of}
 use Rattle.paper.specs.Room.{needed_slots}
 use Rattle.paper.specs.Within.{Sized, SampleIn}
 use Rattle.paper.proofs.Numbers.{sample_lt, sample_place}
 use Rattle.crossing.specs.Vertex.{Crosses}
 use Rattle.bits.specs.Words.{bit, word, lowered}
-use Rattle.bits.proofs.Bits.{bit_of_0, bit_or_law, word_ext}
+use Rattle.bits.proofs.Bits.{bit_of_0, word_ext}
 use Rattle.rows.specs.declared.Quad.{Quad}
 use Rattle.rows.specs.Rows.{four, either_of, corner_bit}
 use Rattle.kinds.specs.declared.KindWords.{KindWords}
-use Rattle.kinds.specs.Kinds.{anchors, cube_bit, kind_bit, kinds_of, is_edge, sides_around, cubes_around, kinds_by}
-use Rattle.kinds.proofs.Anchors.{anchor_word}
+use Rattle.kinds.specs.Kinds.{anchors, cube_bit, kind_bit, kinds_of, seven, any_of, is_edge, sides_around, cubes_around, kinds_by}
+use Rattle.kinds.proofs.Anchors.{edge_in, both_off}
 use Rattle.kinds.proofs.Vertices.{edge_bit}
-use Rattle.dots.specs.Dots.{edge_at, edges_at, any_of, anchor_edges, row_edges, edges_of, layer_edges, edges_by, Crossing, Crossed, Roomy}
+use Rattle.dots.specs.Dots.{edge_at, edges_at, anchor_edges, row_edges, edges_of, layer_edges, edges_by, Crossing, Crossed, Roomy}
 use Rattle.dots.proofs.Laws.{kind_on}
 
 -- ── anchors without a vertex ──
@@ -41,35 +42,27 @@ pub anchor_empty : (k : KindWords) (row x : ℕ) → word (λ j. is_edge k (7 * 
 unfolding anchor_edges
 anchor_empty k row x e = edges_none (row + 7 * x) ∙ ap (λ (ks : ℕ). edges_at ks (row + 7 * x) 7) (sym e)
 
-or_off : (a b : Bool) → (a || b) ≡ false → (a ≡ false) × (b ≡ false)
-or_off true b e = absurd (subst T e tt)
-or_off false b e = (refl, e)
+-- a word that joins words has no place that they have not
+joined_off : (l : List ℕ) (a x : ℕ) → bit (fold bit_or a l) x ≡ false → (bit a x ≡ false) × ((j : ℕ) → bit (get_or l j 0) x ≡ false)
+joined_off [] a x e = (e, λ j. bit_of_0 x)
+joined_off (w ∷ l) a x e =
+    let h = joined_off l (bit_or a w) x e in
+    let b = both_off a w x h.0 in
+    (b.0, at b.1 h.1)
+  where
+    at : bit w x ≡ false → ((j : ℕ) → bit (get_or l j 0) x ≡ false) → (j : ℕ) → bit (get_or (w ∷ l) j 0) x ≡ false
+    at f h zero = f
+    at f h (suc j) = h j
 
-both_off : (v w x : ℕ) → bit (bit_or v w) x ≡ false → (bit v x ≡ false) × (bit w x ≡ false)
-both_off v w x e = or_off (bit v x) (bit w x) (sym (bit_or_law v w x) ∙ e)
+no_kinds : word (λ j. false) 7 ≡ 0
+unfolding word
+no_kinds = refl
 
 -- none of the seven words has the place
 pub any_none : (k : KindWords) (row x : ℕ) → bit (any_of k) x ≡ false → [] ≡ anchor_edges k row x
 any_none k row x e =
-    let s₆ = both_off _ k.k6 x e in
-    let s₅ = both_off _ k.k5 x s₆.0 in
-    let s₄ = both_off _ k.k4 x s₅.0 in
-    let s₃ = both_off _ k.k3 x s₄.0 in
-    let s₂ = both_off _ k.k2 x s₃.0 in
-    let s₁ = both_off k.k0 k.k1 x s₂.0 in
-    let off : (w : ℕ) → bit w x ≡ false → weight (bit w x) 1 ≡ 0 = λ w q. ap (λ (b : Bool). weight b 1) q in
     anchor_empty k row x
-    (omega (
-      arith,
-      anchor_word k x,
-      off k.k0 s₁.0,
-      off k.k1 s₁.1,
-      off k.k2 s₂.1,
-      off k.k3 s₃.1,
-      off k.k4 s₄.1,
-      off k.k5 s₅.1,
-      off k.k6 s₆.1,
-    ))
+    (word_ext (λ j. is_edge k (7 * x + j)) (λ j. false) 7 (λ j h. edge_in k x j h ∙ (joined_off (seven k) 0 x e).1 j) ∙ no_kinds)
 
 -- ── an anchor of a row ──
 
@@ -130,10 +123,6 @@ any_off p h (x ∷ l) = (λ i. h x i || any p l) ∙ any_off p h l
 each_none : (f : ℕ → List ℕ) (l : List ℕ) → All (λ x. [] ≡ f x) l → [] ≡ each f l
 each_none f [] h = refl
 each_none f (x ∷ l) h = λ i. h.0 i ++ each_none f l h.1 i
-
-no_kinds : word (λ j. false) 7 ≡ 0
-unfolding word
-no_kinds = refl
 
 module _ (f v : Quad) (e : either_of v ≡ 0) where
   words_off : (r x : ℕ) → bit (get_or (four v) r 0) x ≡ false

@@ -1,7 +1,6 @@
 -- The vertices of anchors, by words of their kinds: their records one behind the other, and their numbers in the slots of their edges.
 -- Assumes nothing.
 use Rattle.std.specs.Prelude.{◌≡◌, cond, List, [], ◌∷◌, ℕ, ◌+◌, ◌-◌, ◌*◌, ◌≤◌, ◌<◌, T, ℤ, length, set}
-use Rattle.std.specs.Int.Bits.{bit_or}
 use Rattle.std.proofs.lemmas.List.Edits.{sets}
 use Rattle.lists.specs.Lists.{range, each, is_in}
 use Rattle.paper.specs.declared.Sizes.{Sizes}
@@ -22,10 +21,6 @@ edge_at ks base kind = cond (bit ks kind) ((base + kind) ∷ []) []
 
 unfoldable pub edges_at : ℕ → ℕ → ℕ → List ℕ
 edges_at ks base n = each (edge_at ks base) (range 0 n)
-
--- the places that one of the seven words has
-abbrev pub any_of : KindWords → ℕ
-any_of k = bit_or (bit_or (bit_or (bit_or (bit_or (bit_or k.k0 k.k1) k.k2) k.k3) k.k4) k.k5) k.k6
 
 -- the edges with a vertex of anchor x of a row, base being the number of the row's first edge; and of its first n anchors
 unfoldable pub anchor_edges : KindWords → ℕ → ℕ → List ℕ

@@ -4,7 +4,6 @@ use mathlib.Core.Bool.{true}
 use Prim.Native.Nat.{ℕ, ◌+◌}
 use native.Mathlib.Omega.{arith}
 use lib.ListN.{length}
-use Rattle.lists.proofs.Member.{eq_to_t}
 use Rattle.paper.specs.Lattice.{lattice}
 use Rattle.paper.specs.Sheet.{vertex_record}
 use Rattle.bits.specs.Words.{bit}
@@ -14,15 +13,8 @@ use Rattle.dots.proofs.put_kind.Goals as goal
 use Rattle.dots.proofs.put_kind.Goals.{Then-has_bit}
 
 -- the word has the kind
-on : (c : goal.Then-has_bit) → let a = c.args in bit a.ks a.kind ≡ true
+on : (c : goal.Then-has_bit) → bit c.args.ks c.args.kind ≡ true
 on c = sym c.has_bit.ensures ∙ c.if-has_bit.true
-
-pub vertex_on-v-requires : goal.vertex_on-v-requires
-vertex_on-v-requires c =
-    (c.requires.full.0, c.requires.full.1, c.requires.crossing.at c.args.kind c.requires.full.3 (eq_to_t (on (goal.at.vertex_on-v-requires c).Then-has_bit)))
-
-pub overflow_sub-at : goal.overflow_sub-at
-overflow_sub-at c = c.requires.roomy.since
 
 pub put_vertex-requires : goal.put_vertex-requires
 put_vertex-requires c =
@@ -31,13 +23,13 @@ put_vertex-requires c =
 pub returns-then-has_bit : goal.returns-then-has_bit
 returns-then-has_bit c =
     let a = c.args in
-    let L = lattice a.sizes a.samples.now in
+    let L = lattice a.volume.now.sizes a.volume.now.samples.now in
     draws_kind a.rule L a.first a.at a.ks a.base a.kind (drawn a.vertices.now a.slots.now) _ _
     c.put_vertex.ensures
-    (c.vertex_on-v.ensures ∙ ap (λ (b : ℕ). vertex_record a.rule L (b + a.kind)) (sym c.requires.full.2)) (on (goal.at.returns-then-has_bit c).Then-has_bit)
+    (c.vertex_on-v.ensures ∙ ap (λ (b : ℕ). vertex_record a.rule L (b + a.kind)) (sym c.requires.within.1)) (on (goal.at.returns-then-has_bit c).Then-has_bit)
 
 pub returns : goal.returns
 returns c =
     let a = c.args in
-    draws_empty a.rule (lattice a.sizes a.samples.now) a.first a.at (drawn a.vertices.now a.slots.now)
+    draws_empty a.rule (lattice a.volume.now.sizes a.volume.now.samples.now) a.first a.at (drawn a.vertices.now a.slots.now)
     (edge_at a.ks a.base a.kind) (kind_off a.ks a.base a.kind (sym c.has_bit.ensures ∙ c.if-has_bit.false))
