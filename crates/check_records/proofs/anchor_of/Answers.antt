@@ -15,11 +15,13 @@ anchor_lt c = let h : c.args.e < 7 * samples c.args.sizes = c.requires.1 in omeg
 pub place_of-requires : goal.place_of-requires
 place_of-requires c =
     let s = c.requires.0 in
-    (omega (arith, anchor_lt (goal.at.place_of-requires c).Start, samples_few _ s), omega (arith, s), omega (arith, s), omega (arith, s), omega (arith, s))
+    let h = anchor_lt (goal.at.place_of-requires c).Start in
+    (omega (arith, samples_few _ s), omega (arith, s), omega (arith, s), omega (arith, s), omega (arith, s))
 
 pub returns : goal.returns
 unfolding sample_at
 returns c = (
   c.place_of.ensures,
-  subst (SampleIn c.args.sizes) (sym c.place_of.ensures) (sample_inside _ c.requires.0 (c.args.e / 7) (anchor_lt (goal.at.returns c).Start)),
+  subst (SampleIn c.args.sizes) (sym c.place_of.ensures)
+      (sample_inside _ c.requires.0 (c.args.e / 7) (anchor_lt (goal.at.returns c).Start)),
 )
