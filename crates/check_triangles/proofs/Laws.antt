@@ -1,5 +1,5 @@
 -- One triangle after the other: its cube, its place there, and the bits. Assumes nothing.
-use mathlib.Core.Path.{◌≡◌, refl, sym, ap, subst, ◌∙◌}
+use mathlib.Core.Path.{◌≡◌, refl, sym, ap, ◌∙◌}
 use mathlib.Core.Bool.{Bool, true, false, cond, not, ◌&&◌, and-false}
 use mathlib.Core.List.{List}
 use Prim.Native.Nat.{ℕ, zero, suc, ◌+◌, ◌-◌, ◌*◌, ◌/◌, ◌%◌, ◌^◌, ◌≤◌, ◌<◌}
@@ -8,23 +8,24 @@ use native.Mathlib.Decide.{ℕ_discrete}
 use native.Mathlib.Numerals.{add-one}
 use native.Mathlib.Omega.{arith}
 use lib.IntN.{ℤ, pos, negsuc, nat_abs}
-use lib.Dec.{eqb, ltb, eqb→eq, ltb→lt}
+use lib.Dec.{T, eqb, ltb, eqb→eq, ltb→lt}
+use lib.Signed.{non_neg}
 use lib.ListN.{length, get_or, set, length-set}
 use lib.Seq.{get_or-set_same, get_or-set_other}
-use borrow.Author.Tests.{eq-eqb, ne_eqb, lt-ltb, le-ltb, ltb-true, eqb-true, eqb-false}
+use borrow.Author.Tests.{eq-eqb, ne_eqb, lt-ltb, le-ltb, ltb-true, eqb-true}
 use Rattle.lists.specs.Lists.{range, first}
 use Rattle.lists.proofs.Firsts.{first_holds}
 use Rattle.lists.proofs.Computed.{upto_at}
 use Rattle.paper.specs.declared.Sizes.{Sizes}
-use Rattle.paper.specs.declared.Place.{Place}
-use Rattle.paper.specs.Lattice.{place, sample_no, cubes, cube_no, cube_at}
+use Rattle.paper.specs.Lattice.{cubes, cube_at}
 use Rattle.paper.specs.Tables.{Tri}
 use Rattle.paper.specs.Check.{triangle_of}
 use Rattle.paper.specs.Within.{Sized}
 use Rattle.paper.proofs.Judged.{both}
-use Rattle.paper.proofs.Numbers.{sample_lt, cube_lt, cube_inside, cube_place}
+use Rattle.paper.proofs.Numbers.{sample_lt, cube_inside}
 use Rattle.lattice.proofs.Laws.{low_in, samples_few}
 use Rattle.sides.specs.Pattern.{bit_of}
+use Rattle.bits.specs.Words.{bit}
 use Rattle.check_records.specs.Records.{edge_in}
 use Rattle.check_triangles.specs.Words.{base_of}
 use Rattle.check_triangles.specs.declared.Spot.{Spot}
@@ -47,6 +48,10 @@ named_is (pos m) n h = go (ltb m n) h
     go true h = refl
     go false h = absurd (omega arith)
 named_is (negsuc m) n h = absurd (omega arith)
+
+pub named_positive : (z : ℤ) (n : ℕ) → edge_in z n < n → T (non_neg z)
+named_positive (pos m) n h = tt
+named_positive (negsuc m) n h = absurd (omega arith)
 
 -- ── a place in a cube ──
 
@@ -131,6 +136,20 @@ bit_set (suc c) (suc d) m h =
         go (yes e) = eq-eqb (suc d) (suc c) (ap suc e) ∙ sym (eq-eqb d c e)
         go (no e) = ne_eqb (suc d) (suc c) (λ q. e (omega arith)) ∙ sym (ne_eqb d c e)
 
+-- as a test of a word
+bit_free : (m c : ℕ) → not (bit m c) ≡ eqb (bit_of m c) 0
+unfolding bit bit_of
+bit_free m c = go (m / 2 ^ c % 2) (omega arith)
+  where
+    go : (b : ℕ) → b < 2 → not (eqb b 1) ≡ eqb b 0
+    go zero h = refl
+    go (suc zero) h = refl
+    go (suc (suc b)) h = absurd (omega arith)
+
+pub not_noted : (seen : List ℕ) (s : Spot) → not (bit (get_or seen s.cube 0) s.place) ≡ fresh_at seen s
+unfolding fresh_at
+not_noted seen s = bit_free (get_or seen s.cube 0) s.place
+
 -- and n bits stay n
 set_small : (n c m : ℕ) → c < n → m < 2 ^ n → bit_of m c ≡ 0 → m + 2 ^ c < 2 ^ n
 set_small zero c m h l e = absurd (omega arith)
@@ -169,69 +188,60 @@ noted_small z words seen t h f s = record { at = λ k l. go k l (ℕ_discrete k 
 
 -- ── the spot of a triangle ──
 
--- the first cube, and what it is based on
-first_cube : (z : Sizes) → Sized z → place 0 0 0 ≡ cube_at z 0
-unfolding cube_no
-first_cube z s =
-    sym (cube_place z (place 0 0 0) (omega (arith, s.x_low)) (omega (arith, s.y_low))) ∙ ap (cube_at z) (omega arith)
-
-pub based_first : (z : Sizes) (words : List ℕ) → Sized z → Based z words (record { cube = 0; base = 0; word = 0; place = 12 })
-unfolding base_of sample_no
-based_first z words s =
-    let h = cube_lt z (place 0 0 0) (record { x = omega (arith, s.x_low); y = omega (arith, s.y_low); z = omega (arith, s.z_low) }) in
-    record {
-      cube = omega arith;
-      base = (let e : 0 ≡ 7 * (0 + z.nx * (0 + z.ny * 0)) = omega arith in e) ∙ ap (λ (p : Place). 7 * sample_no z p) (first_cube z s);
-      word = λ q. absurd (q refl);
-    }
-
 pub base_few : (z : Sizes) → Sized z → (k : ℕ) → k < cubes z → base_of z k ≤ 2000000
 unfolding base_of
 base_few z s k h = omega (arith, sample_lt z (cube_at z k) (low_in z (cube_at z k) (cube_inside z s k h)), samples_few z s)
 
-module _ (z : Sizes) (words : List ℕ) (k : ℕ) (t : Tri) where
-  -- a search from the first place on
-  pub place_is : k < cubes z → cond (eqb (get_or words k 0) 0) 12 (place_from z (base_of z k) (get_or words k 0 % 256) t 0) ≡ place_in z words k t
-  unfolding place_in place_from place_by
-  place_is h = rw (lt-ltb k (cubes z) h) (go (eqb (get_or words k 0) 0))
-    where
-      go : (b : Bool) → let p = place_by z (base_of z k) (get_or words k 0 % 256) t in cond b 12 p ≡ cond (not b) p 12
-      go true = refl
-      go false = refl
+-- a search from the first place on in a cube that has a word
+pub searched : (z : Sizes) (words : List ℕ) (k : ℕ) (t : Tri) (base m : ℕ) → k < cubes z → base ≡ base_of z k
+    → get_or words k 0 ≡ 256 + m → m < 256 → place_from z base m t 0 ≡ place_in z words k t
+unfolding place_from place_by
+searched z words k t base m h b w l =
+    let e : m ≡ get_or words k 0 % 256 = omega arith in
+    (λ i. first (is_at z (b i) (e i) t) 12 (range 0 12)) ∙ place_word z words k t h (λ o. absurd (omega arith))
 
-  -- what any search finds in a cube is where the triangle is
-  pub near_found : (i word r : ℕ) → Sure z words → k < cubes z → ((word ≡ 0 → ⊥) → word ≡ get_or words k 0)
-      → r ≡ cond (eqb word 0) 12 (place_from z (base_of z k) (word % 256) t i) → r < 12
-      → (holder z t ≡ k) × (place_of z words t ≡ r)
-  near_found i word r s hk is e h = go (eqb word 0) refl e
-    where
-      go : (b : Bool) → eqb word 0 ≡ b → r ≡ cond b 12 (place_from z (base_of z k) (word % 256) t i)
-          → (holder z t ≡ k) × (place_of z words t ≡ r)
-      go true q e = absurd (omega arith)
-      go false q e =
-          let some = eqb-false word 0 q in
-          let w = is some in
-          s.at k r t hk h (λ o. some (w ∙ o))
-          (subst (λ (n : ℕ). is_at z (base_of z k) (n % 256) t r ≡ true) w
-          (subst (λ (c : ℕ). is_at z (base_of z k) (word % 256) t c ≡ true) (sym e)
-          (from_holds z (base_of z k) (word % 256) t i (omega arith))))
+module _ (z : Sizes) (words : List ℕ) (t : Tri) where
+  -- what any search finds in a spot's cube is where the triangle is
+  pub near_found : (s : Spot) (i c : ℕ) → Sure z words → Based z words s → place_from z s.base s.pattern t i ≡ c → c < 12
+      → Found z words t (record { cube = s.cube; base = s.base; pattern = s.pattern; place = c })
+  near_found s i c S b e h =
+      let m : s.pattern ≡ get_or words s.cube 0 % 256 = omega (arith, b.word, b.pattern) in
+      let there : is_at z (base_of z s.cube) (get_or words s.cube 0 % 256) t c ≡ true =
+      sym (λ j. is_at z (b.base j) (m j) t (e j)) ∙ from_holds z s.base s.pattern t i (omega (arith, e)) in
+      let p = S.at s.cube c t b.cube h (λ o. absurd (omega (arith, b.word))) there in
+      record {
+        place = sym p.1;
+        cube = sym p.0;
+        based = record { cube = b.cube; base = b.base; word = b.word; pattern = b.pattern; place = h };
+      }
 
-module _ (z : Sizes) (words seen : List ℕ) (t : Tri) (s : Spot) (f : Found z words t s) where
-  pub found_fresh : fresh_at seen s ≡ fresh z words seen t
+  -- no place, in no cube or in one that is not visited
+  pub out_of : (k : ℕ) → k ≡ holder z t → cubes z ≤ k → place_of z words t ≡ 12
+  unfolding place_of
+  out_of k e h = ap (λ (k : ℕ). place_in z words k t) (sym e) ∙ sym (place_out z words k t h)
+
+  pub idle_in : (k : ℕ) → k ≡ holder z t → get_or words k 0 ≡ 0 → place_of z words t ≡ 12
+  unfolding place_of
+  idle_in k e h = ap (λ (k : ℕ). place_in z words k t) (sym e) ∙ sym (place_idle z words k t h)
+
+  pub placed_in : (k : ℕ) → k ≡ holder z t → place_in z words k t ≡ place_of z words t
+  unfolding place_of
+  placed_in k e = ap (λ (k : ℕ). place_in z words k t) e
+
+module _ (z : Sizes) (words seen : List ℕ) (t : Tri) where
+  pub found_fresh : (s : Spot) → Found z words t s → fresh_at seen s ≡ fresh z words seen t
   unfolding fresh_at fresh
-  found_fresh = go (ltb s.place 12) refl
-    where
-      go : (b : Bool) → ltb s.place 12 ≡ b
-          → (ltb s.place 12 && eqb (bit_of (get_or seen s.cube 0) s.place) 0)
-          ≡ (ltb (place_of z words t) 12 && eqb (bit_of (get_or seen (holder z t) 0) (place_of z words t)) 0)
-      go true e = λ i. ltb (f.place i) 12 && eqb (bit_of (get_or seen (f.cube (ltb-true s.place 12 e) i) 0) (f.place i)) 0
-      go false e = rw (e, ← f.place, e)
+  found_fresh s f =
+      rw (lt-ltb (place_of z words t) 12 (omega (arith, f.place, f.based.place)))
+      (λ i. eqb (bit_of (get_or seen (f.cube i) 0) (f.place i)) 0)
 
-  pub found_noted : fresh_at seen s ≡ true → noted_at seen s ≡ noted z words seen t
-  unfolding fresh_at noted_at noted
-  found_noted e =
-      let h = ltb-true s.place 12 (both (ltb s.place 12) (eqb (bit_of (get_or seen s.cube 0) s.place) 0) e).0 in
-      λ i. set seen (f.cube h i) (get_or seen (f.cube h i) 0 + 2 ^ (f.place i))
+  pub found_noted : (s : Spot) → Found z words t s → noted_at seen s ≡ noted z words seen t
+  unfolding noted_at noted
+  found_noted s f i = set seen (f.cube i) (get_or seen (f.cube i) 0 + 2 ^ (f.place i))
+
+  pub lost_fresh : place_of z words t ≡ 12 → fresh z words seen t ≡ false
+  unfolding fresh
+  lost_fresh e = rw (le-ltb (place_of z words t) 12 (omega arith))
 
 -- ── triangle after triangle ──
 

@@ -1,5 +1,5 @@
 -- A file's triangles, named by edges, against the triangles of the visited cubes. Assumes nothing.
-use Rattle.std.specs.Prelude.{◌≡◌, Bool, true, cond, not, ◌&&◌, List, ℕ, zero, suc, ◌+◌, ◌-◌, ◌/◌, ◌%◌, ◌^◌, ◌<◌, ℤ, eqb, ltb, get_or, set}
+use Rattle.std.specs.Prelude.{◌≡◌, Bool, true, cond, not, ◌&&◌, Option, MatchOption, List, ℕ, zero, suc, ◌+◌, ◌-◌, ◌/◌, ◌%◌, ◌^◌, ◌<◌, ℤ, eqb, ltb, get_or, set}
 use Rattle.lists.specs.Lists.{range, first}
 use Rattle.paper.specs.declared.Sizes.{Sizes}
 use Rattle.paper.specs.Lattice.{cubes, cube_no}
@@ -57,21 +57,27 @@ fresh z words seen t =
 unfoldable pub noted : Sizes → List ℕ → List ℕ → Tri → List ℕ
 noted z words seen t = set seen (holder z t) (get_or seen (holder z t) 0 + 2 ^ place_of z words t)
 
--- a spot is based: its cube is one of the lattice, its base is the cube's, and so is its word, if it has one
+-- a spot is based: its cube is one of the lattice and has a word, its base and its pattern are the cube's, and its place is one of the twelve
 pub record Based (z : Sizes) (words : List ℕ) (s : Spot) : Type 0 where
   pub cube : s.cube < cubes z
   pub base : s.base ≡ base_of z s.cube
-  pub word : (s.word ≡ 0 → ⊥) → s.word ≡ get_or words s.cube 0
+  pub word : get_or words s.cube 0 ≡ 256 + s.pattern
+  pub pattern : s.pattern < 256
+  pub place : s.place < 12
 
--- a spot is where t is: its place, and its cube where it has a place
+-- a spot is where t is: its place and its cube
 pub record Found (z : Sizes) (words : List ℕ) (t : Tri) (s : Spot) : Type 0 where
   pub place : s.place ≡ place_of z words t
-  pub cube : s.place < 12 → s.cube ≡ holder z t
+  pub cube : s.cube ≡ holder z t
   pub based : Based z words s
 
--- a spot has a place, and its bit is 0; its bit becomes 1
+-- an answer is the spot where t is, or t has no place
+abbrev pub Finds : Sizes → List ℕ → Tri → Option Spot → Type 0
+Finds z words t o = MatchOption o (place_of z words t ≡ 12) (Found z words t)
+
+-- the bit of a spot is 0; it becomes 1
 unfoldable pub fresh_at : List ℕ → Spot → Bool
-fresh_at seen s = ltb s.place 12 && eqb (bit_of (get_or seen s.cube 0) s.place) 0
+fresh_at seen s = eqb (bit_of (get_or seen s.cube 0) s.place) 0
 
 unfoldable pub noted_at : List ℕ → Spot → List ℕ
 noted_at seen s = set seen s.cube (get_or seen s.cube 0 + 2 ^ s.place)

@@ -1,33 +1,31 @@
 -- Near the last triangle, or by its own cube. Assumes nothing.
 use mathlib.Core.Path.{sym, ap, ◌∙◌}
-use mathlib.Core.Bool.{cond}
-use Prim.Native.Nat.{ℕ, ◌+◌, ◌%◌}
+use Prim.Native.Nat.{◌+◌}
 use native.Mathlib.Omega.{arith}
-use lib.Dec.{eqb}
+use Rattle.paper.specs.declared.Sizes.{Sizes}
 use Rattle.tetra.specs.Cut.{tri_of}
 use Rattle.check_triangles.specs.Words.{words_by}
-use Rattle.check_triangles.specs.Triples.{place_from}
+use Rattle.check_triangles.specs.Triples.{place_from, Based}
 use Rattle.check_triangles.proofs.Laws.{base_few, near_found}
 use Rattle.check_triangles.proofs.find.Goals as goal
+use Rattle.check_triangles.proofs.find.Goals.{In-Some}
 
-pub place_in-place-requires : goal.place_in-place-requires
-place_in-place-requires c =
-    let p = c.requires.sized in
-    let b = c.requires.fact.1 in
-    (p.0, p.1, p.2, omega (arith, b.base, base_few _ p.0 _ b.cube), omega (arith, c.requires.fact.2))
+-- the last triangle's spot
+based : (c : goal.In-Some) → let w = c.args.rows.now in Based w.sizes (words_by w.sizes w.sides.now w.cubes.now) c.in-Some.at
+based c = rw c.in-Some.is at c.requires.words.1
 
-pub returns-then-place-lt12 : goal.returns-then-place-lt12
-returns-then-place-lt12 c =
-    let z = c.args.sizes in
-    let w = words_by z c.args.rows.now c.args.vis.now in
+pub place_from-requires : goal.place_from-requires
+place_from-requires c =
+    let w = c.args.rows.now in
+    let b = based (goal.at.place_from-requires c).In-Some in
+    (omega (arith, b.base, base_few w.sizes w.sized c.in-Some.at.cube b.cube), omega (arith, b.place))
+
+pub returns-in-Some-place_from : goal.returns-in-Some-place_from
+returns-in-Some-place_from c =
+    let w = c.args.rows.now in
+    let at = c.in-Some.at in
     let t = tri_of c.args.t in
-    let last = c.args.last in
-    let b = c.requires.fact.1 in
-    let r = c.place_in-place in
-    let f =
-    near_found z w last.cube t (last.place + 1) last.word r.result c.requires.fact.0 b.cube b.word
-    (r.ensures.0 ∙ ap (λ (b : ℕ). cond (eqb last.word 0) 12 (place_from z b (last.word % 256) t (last.place + 1))) b.base)
-    c.if-place-lt12.true in (
-      record { place = sym f.1; cube = λ q. sym f.0; based = record { cube = b.cube; base = b.base; word = b.word } },
-      r.ensures.1,
-    )
+    let p = c.in-Some-place_from.ensures in
+    near_found w.sizes (words_by w.sizes w.sides.now w.cubes.now) t at (at.place + 1) c.in-Some-place_from.place c.requires.words.0
+    (based (goal.at.returns-in-Some-place_from c).In-Some)
+    (ap (λ (z : Sizes). place_from z at.base at.pattern t (at.place + 1)) (sym c.requires.sized.0) ∙ p.0) p.1

@@ -1,26 +1,28 @@
--- No place, a bit that is 1, or a bit that becomes 1. Assumes nothing.
-use mathlib.Core.Path.{refl, sym, ◌∙◌}
-use Prim.Native.Nat.{◌+◌}
+-- A bit that is 1, or one that becomes 1. Assumes nothing.
+use mathlib.Core.Path.{◌≡◌, refl, sym, ap, ◌∙◌}
+use mathlib.Core.Bool.{not}
+use Prim.Native.Nat.{ℕ, ◌+◌}
 use lib.ListN.{get_or, set}
-use borrow.Author.Tests.{le-ltb, lt-ltb, eq-eqb, ne_eqb}
+use Rattle.bits.specs.Words.{bit}
 use Rattle.check_triangles.specs.Triples.{fresh_at, noted_at}
+use Rattle.check_triangles.proofs.Laws.{power_fits, not_noted}
 use Rattle.check_triangles.proofs.note.Goals as goal
+use Rattle.check_triangles.proofs.note.Goals.{After-has_bit}
 
-pub returns-then-c-ge12 : goal.returns-then-c-ge12
-unfolding fresh_at
-returns-then-c-ge12 c = (rw (le-ltb _ 12 c.if-c-ge12.true), refl)
+-- what the test says
+told : (c : goal.After-has_bit) → not c.has_bit.result ≡ fresh_at c.args.seen.now c.args.at
+told c =
+    let a = c.args in
+    ap not (c.has_bit.ensures ∙ ap (λ (m : ℕ). bit m a.at.place) c.from.ensures) ∙ not_noted a.seen.now a.at
 
-pub returns-then-bit-ne0 : goal.returns-then-bit-ne0
-unfolding fresh_at
-returns-then-bit-ne0 c = (rw (lt-ltb _ 12 c.if-c-ge12.false, ne_eqb _ 0 (λ q. c.if-bit-ne0.true (c.bit.ensures ∙ q))), refl)
+pub returns-then-has_bit : goal.returns-then-has_bit
+returns-then-has_bit c = (ap not (sym c.if-has_bit.true) ∙ told (goal.at.returns-then-has_bit c).After-has_bit, refl)
 
 pub returns : goal.returns
-unfolding fresh_at noted_at
+unfolding noted_at
 returns c =
-    let s = c.args in (
-      rw (
-        lt-ltb _ 12 c.if-c-ge12.false,
-        eq-eqb _ 0 (sym c.bit.ensures ∙ c.if-bit-ne0.false),
-      ),
-      λ i. set s.seen.now s.at.cube (get_or s.seen.now s.at.cube 0 + c.power.ensures.0 i),
+    let a = c.args in
+    let k = a.at.cube in (
+      ap not (sym c.if-has_bit.false) ∙ told (goal.at.returns c).After-has_bit,
+      λ i. set a.seen.now k (get_or a.seen.now k 0 + (power_fits a.at.place c.requires.2).0 i),
     )

@@ -1,12 +1,9 @@
 -- The search from c on finds what the search from the start finds. Assumes nothing.
 use mathlib.Core.Path.{◌≡◌}
-use Prim.Native.Nat.{◌-◌, ◌≤◌}
 use Rattle.tetra.specs.Cut.{tri_of}
 use Rattle.check_triangles.specs.Triples.{place_from}
 use Rattle.check_triangles.proofs.place_from.Given as goal
 
 abbrev pub invariant-loop-c : goal.invariant-loop-c
-invariant-loop-c l = (l.c ≤ 13) × (place_from l.sizes l.base l.m (tri_of l.t) l.from ≡ place_from l.sizes l.base l.m (tri_of l.t) l.c)
-
-abbrev pub decreases-loop-c : goal.decreases-loop-c
-decreases-loop-c l = 12 - l.c
+invariant-loop-c l =
+    let z = l.cut.sizes in place_from z l.base l.m (tri_of l.t) l.from ≡ place_from z l.base l.m (tri_of l.t) l.c
