@@ -4,8 +4,8 @@
 ghost use Rattle.std.specs.Prelude.{◌≡◌, true, ℕ, ◌+◌, ◌*◌, ◌<◌, ◌≤◌, pos, length, get_or, unwrap_or, IfSome};
 ghost use Rattle.paper.specs.Tests.{judge};
 ghost use Rattle.paper.specs.Refused.{verdict_told};
-ghost use Rattle.paper.specs.File.{bad_triangle, first_bad, limits, trailer_at, trailer, file_v, file_t, file_sizes, file_vertices};
-ghost use Rattle.paper.specs.File.{file_triangles, laid_out, file_tests};
+ghost use Rattle.paper.specs.File.{bad_triangle, first_bad, limits, trailer_at, file_length, trailer, file_v, file_t, file_sizes};
+ghost use Rattle.paper.specs.File.{file_vertices, file_triangles, laid_out, file_tests};
 ghost use Rattle.layout.specs.Laid.{any_from, Ranged};
 
 use codec::Number;
@@ -34,6 +34,15 @@ pub fn trailer_at(nv: usize, nt: usize) -> usize
     ensures { result ≡ trailer_at nv nt }
 {
     16 * nv + 12 * nt
+}
+
+// How long a file is.
+#[tactic(auto, unfolding(paper::specs::File::file_length))]
+pub fn file_length(nv: usize, nt: usize) -> usize
+    requires { (nv < 4294967296) × (nt < 4294967296) }
+    ensures { result ≡ file_length nv nt }
+{
+    trailer_at(nv, nt) + 24
 }
 
 // ── a file's trailer ──
@@ -86,11 +95,10 @@ fn laid_out(bytes: &[u8]) -> bool
 {
     let nv = vertex_count(bytes);
     let nt = triangle_count(bytes);
-    let front = trailer_at(nv, nt);
     within_limits(nv, nt)
-        && trailer_number::<u32>(bytes, 0) as usize == front
+        && trailer_number::<u32>(bytes, 0) as usize == trailer_at(nv, nt)
         && trailer_number::<u32>(bytes, 8) as usize == 12 * nt
-        && bytes.len() == front + 24
+        && bytes.len() == file_length(nv, nt)
 }
 
 // ── a file's records and triangles ──
