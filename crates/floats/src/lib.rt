@@ -19,7 +19,7 @@ fn first_bad(voxels: &[f32]) -> Option<usize>
     voxels.iter().position(|&v| !voxels::is_grey(v))
 }
 
-// The samples of all voxels, at the front of the lent slice.
+// The samples of all voxels, at the front of the lent slice. By index: of what was written through `iter_mut` nothing can be proved.
 fn put_samples(voxels: &[f32], level: f32, scale: u32, samples: &mut [i16])
     requires { Fine level scale voxels.now × (length voxels.now ≤ length samples.old) }
     ensures { samples.new ≡ over (map (sample_of level scale) voxels.now) samples.old }

@@ -1,19 +1,14 @@
 -- What inner functions need, and what they give. Assumes nothing.
-use Rattle.std.specs.Prelude.{◌≡◌, true, false, cond, List, ℕ, ◌*◌, ◌/◌, ◌^◌, ◌≤◌, ◌<◌, pos, length, get_or, Float}
+use Rattle.std.specs.Prelude.{◌≡◌, true, false, List, ℕ, ◌*◌, ◌/◌, ◌^◌, ◌≤◌, ◌<◌, pos, length, get_or, Float}
 use Rattle.std.specs.Float.{nan, inf, fin}
-use Rattle.std.specs.Float.Ieee.{up, down, lt, neg}
+use Rattle.std.specs.Float.Ieee.{up, down}
 use Rattle.greys.specs.Level.{is_grey}
-use Rattle.greys.specs.Sample.{none}
 
 -- a scale by its power
 pub record Scale (n : ℕ) : Type 0 where
   pub k : ℕ
   pub small : k ≤ 8
   pub is : n ≡ 2 ^ k
-
--- d without its sign
-unfoldable pub size_of : Float → Float
-size_of d = cond (lt d none) (neg d) d
 
 abbrev pub most : Float
 most = fin false 32767 (pos 0)

@@ -6,7 +6,7 @@ ghost use Rattle.std.specs.Float.{binary32};
 ghost use Rattle.std.specs.Float.Ieee.{fits};
 ghost use Rattle.greys.specs.Level.{is_grey, level_of, are_greys, is_ordered};
 ghost use Rattle.greys.specs.Sample.{is_scale, held, sample_of};
-ghost use Rattle.greys.specs.Within.{Scale, size_of, Plain, whole, Bounded};
+ghost use Rattle.greys.specs.Within.{Scale, Plain, whole, Bounded};
 
 use greys::Level;
 
@@ -61,13 +61,6 @@ pub fn is_scale(n: u32) -> bool
 
 // ── a sample ──
 
-// d without its sign. Not `f32::abs`, which also turns -0 into 0: with it a conversion takes a quarter longer.
-fn size_of(d: f32) -> f32
-    ensures { result ≡ size_of d }
-{
-    if d < 0.0 { -d } else { d }
-}
-
 // The whole part of p. From 2^23 to 2^24 floats are the whole numbers, so the sum's last digits are the whole number nearest to p.
 fn whole_part(p: f32) -> u16
     requires { Plain p }
@@ -82,8 +75,7 @@ fn steps(d: f32, scale: u32) -> u16
     requires { Scale scale × Bounded 131072 d × T (fits binary32 d) }
     ensures { (result ≡ held d scale) × (result ≤ 32767) }
 {
-    let size = size_of(d);
-    whole_part((size * (scale as f32)).min(32767.0))
+    whole_part((d.abs() * (scale as f32)).min(32767.0))
 }
 
 // A sample of air is at least 1.
