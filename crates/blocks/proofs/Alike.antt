@@ -2,7 +2,7 @@
 use mathlib.Core.Path.{◌≡◌, sym, ap, transport, ◌∙◌}
 use mathlib.Core.Bool.{Bool, true, false, cond, not}
 use mathlib.Core.List.{List}
-use Prim.Native.Nat.{ℕ, ◌+◌, ◌-◌, ◌*◌, ◌/◌, ◌^◌, ◌≤◌, ◌<◌}
+use Prim.Native.Nat.{ℕ, ◌+◌, ◌-◌, ◌*◌, ◌/◌, ◌^◌, ◌≤◌, ◌<◌, min}
 use native.Mathlib.Omega.{arith}
 use lib.Bits.{bit_and}
 use lib.Dec.{T}
@@ -20,6 +20,10 @@ use Rattle.bits.proofs.Bits.{bit_shr, bit_of_0, bit_not, bit_word, word_ext, wor
 use Rattle.rows.proofs.Cubes.{made_rows, made_free, crossed_is}
 use Rattle.blocks.specs.Blocks.{in_block, OneSided, Lesser, side_by, OneSide}
 use Rattle.blocks.proofs.Parts.{block_inside, inside_block, one_side_quiet}
+
+-- std's `min` is the lesser
+pub lesser : {a b r : ℕ} → r ≡ min a b → Lesser a b r
+lesser e = (omega arith, omega arith, λ i h k. omega arith)
 
 -- the side of a sample by rows is that of the lattice
 side_is : (L : Lattice) (rows : List ℕ) → HasRows L rows → (p : Place) → SampleIn L.size p → side_by L.size rows p ≡ air_at L p

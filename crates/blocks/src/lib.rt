@@ -3,18 +3,11 @@
 
 ghost use Rattle.std.specs.Prelude.{◌≡◌, true, false, cond, ◌+◌, ◌-◌, ◌*◌, ◌/◌, ◌^◌, ◌≤◌, ◌<◌, length, get_or};
 ghost use Rattle.std.specs.Int.Bits.{bit_and};
-ghost use Rattle.paper.specs.Lattice.{place};
-ghost use Rattle.paper.specs.Within.{Sized, CubeIn};
-ghost use Rattle.blocks.specs.Blocks.{Block, Lesser, OneSide};
+ghost use Rattle.paper.specs.Within.{CubeIn};
+ghost use Rattle.blocks.specs.Blocks.{Block, OneSide};
 
-use paper::Sizes;
-
-// The lesser of two numbers.
-pub fn least(a: usize, b: usize) -> usize
-    ensures { Lesser a b result }
-{
-    if a < b { a } else { b }
-}
+use paper::Place;
+use rows::Rows;
 
 // The lowest n bits, of up to all 64.
 fn mask(n: usize) -> u64
@@ -24,12 +17,13 @@ fn mask(n: usize) -> u64
     2 * bits::low_bits(n - 1) + 1
 }
 
-// The row at y and z.
-fn row_of(rows: &[u64], sizes: Sizes, y: usize, z: usize) -> u64
-    requires { Sized sizes × (sizes.ny * sizes.nz ≤ length rows.now) × (y < sizes.ny) × (z < sizes.nz) }
-    ensures { result ≡ get_or rows.now (y + sizes.ny * z) 0 }
+// The row of sides at y and z.
+#[tactic(auto, using(rows::proofs::Making::row_lt))]
+fn row_of(rows: &Rows, y: usize, z: usize) -> u64
+    requires { (y < rows.now.sizes.ny) × (z < rows.now.sizes.nz) }
+    ensures { result ≡ get_or rows.now.sides.now (y + rows.now.sizes.ny * z) 0 }
 {
-    rows[y + sizes.ny * z]
+    rows.sides[y + rows.sizes.ny * z]
 }
 
 // The bits m of a word from bit x on.
@@ -48,18 +42,19 @@ fn all_or_none(all: bool, m: u64) -> u64
 }
 
 // Whether the samples of a block of cubes are all on one side: each row has there what the first sample says.
-pub fn one_side(rows: &[u64], sizes: Sizes, x: usize, y: usize, z: usize, size: usize) -> bool
-    requires { Sized sizes × (sizes.ny * sizes.nz ≤ length rows.now) × CubeIn sizes (place x y z) × Block (place x y z) size }
-    ensures { let alike = OneSide sizes rows.now (place x y z) size in
+pub fn one_side(rows: &Rows, at: Place, size: usize) -> bool
+    requires { CubeIn rows.now.sizes at × Block at size }
+    ensures { let alike = OneSide rows.now.sizes rows.now.sides.now at size in
         (result ≡ true → alike) × (result ≡ false → alike → ⊥) }
 {
-    let m = mask(least(size + 1, sizes.nx - x));
-    let y_end = least(y + size + 1, sizes.ny);
-    let z_end = least(z + size + 1, sizes.nz);
-    let like = all_or_none(bits::has_bit(row_of(rows, sizes, y, z), x), m);
-    for c in z..z_end {
-        for b in y..y_end {
-            if part_of(row_of(rows, sizes, b, c), x, m) != like {
+    let sizes = rows.sizes;
+    let m = mask((size + 1).min(sizes.nx - at.x));
+    let y_end = (at.y + size + 1).min(sizes.ny);
+    let z_end = (at.z + size + 1).min(sizes.nz);
+    let like = all_or_none(bits::has_bit(row_of(rows, at.y, at.z), at.x), m);
+    for z in at.z..z_end {
+        for y in at.y..y_end {
+            if part_of(row_of(rows, y, z), at.x, m) != like {
                 return false;
             }
         }

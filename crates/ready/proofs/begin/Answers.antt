@@ -21,7 +21,7 @@ use Rattle.paper.specs.Build.{shape_tests, start_tests, sample_tests}
 use Rattle.paper.proofs.Judged.{judge_past, judge_stop}
 use Rattle.paper.proofs.Passing.{shape_numbered, sample_tests_law}
 use Rattle.ready.specs.Ready.{cube_told, Shaped, Chosen, Readied}
-use Rattle.ready.proofs.Refusals.{some_number}
+use Rattle.paper.proofs.Refusals.{some_number}
 use Rattle.ready.proofs.begin.Goals as goal
 
 module _ (L : Lattice) (s : Start) (n : Lengths) (rows may : List ℕ) where

@@ -1,2 +1,0 @@
--- What a refusal says (Refusals).
-pub mod Refusals
