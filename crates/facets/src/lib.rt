@@ -5,7 +5,7 @@ ghost use Rattle.std.specs.Prelude.{◌≡◌, true, not, T};
 ghost use Rattle.std.specs.Float.{binary32};
 ghost use Rattle.std.specs.Float.Ieee.{of_bits, is_nan};
 ghost use Rattle.facets.specs.Steps.{float_of, in_bounds, is_image, word_of, nat_of, Candidate};
-ghost use Rattle.facets.specs.Facets.{Bounded, corner_of};
+ghost use Rattle.facets.specs.Facets.{Bounded, corner_of, corner_stands, corner_words};
 
 // "A corner is one record of three floats.", in sample steps.
 #[derive(Clone, Copy)]
@@ -36,7 +36,7 @@ fn candidate(x: f32) -> u32
     requires { T (not (is_nan x)) }
     ensures { Candidate x result }
 {
-    f32::to_bits(x + 128.0) % 8388608
+    (x + 128.0).to_bits() % 8388608
 }
 
 // Whether 32 bits are those of a coordinate's float. From 64 on, below 0 and of no number they are not.
@@ -47,10 +47,7 @@ pub fn bits_stand(b: u32) -> bool
         return false;
     }
     let n = candidate(f32::from_bits(b));
-    if n > 4128768 {
-        return false;
-    }
-    f32::to_bits(float_of(n as i32)) == b
+    n <= 4128768 && float_of(n as i32).to_bits() == b
 }
 
 // The coordinate of a float that has one, as a sheet's number.
@@ -62,22 +59,33 @@ pub fn word_of(x: f32) -> i32
 }
 
 // Whether a sheet's number is a coordinate, 0 to 4,128,768.
+#[tactic(auto, unfolding(crate::specs::Steps::in_bounds))]
 pub fn in_bounds(w: i32) -> bool
     ensures { result ≡ in_bounds w }
 {
-    if w < 0 {
-        return false;
-    }
-    w <= 4128768
+    (0..=4128768).contains(&w)
 }
 
-pub fn corner_of(x: i32, y: i32, z: i32) -> Corner
-    requires { Bounded x y z }
-    ensures { result ≡ corner_of x y z }
-{
-    Corner {
-        x: float_of(x),
-        y: float_of(y),
-        z: float_of(z),
+impl Corner {
+    // That of three coordinates.
+    #[tactic(auto, unfolding(crate::specs::Facets::corner_of))]
+    pub fn at(x: i32, y: i32, z: i32) -> Corner
+        requires { Bounded x y z }
+        ensures { result ≡ corner_of x y z }
+    {
+        Corner {
+            x: float_of(x),
+            y: float_of(y),
+            z: float_of(z),
+        }
+    }
+
+    // Its three coordinates, where it has them.
+    #[tactic(auto, unfolding(crate::specs::Facets::corner_stands, crate::specs::Facets::corner_words))]
+    pub fn words(self) -> [i32; 3]
+        requires { corner_stands self ≡ true }
+        ensures { result ≡ corner_words self }
+    {
+        [word_of(self.x), word_of(self.y), word_of(self.z)]
     }
 }
