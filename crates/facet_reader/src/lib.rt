@@ -9,20 +9,24 @@ ghost use Rattle.lists.specs.Bytes.{field};
 ghost use Rattle.facets.specs.Steps.{is_image};
 ghost use Rattle.facets.specs.Facets.{corner_at, corner_stands, corner_words, facet_at, facet_stands, facet_words};
 
+use codec::Number;
 use facets::{Corner, Facet};
 
-// Whether the three floats from at on are coordinates'.
+// Whether the four bytes from `at` on are a coordinate's float.
+fn float_taken(s: &[u8], at: usize) -> bool
+    requires { at + 4 ≤ length s.now }
+    ensures { result ≡ is_image (of_bits binary32 (field 4 s.now at)) }
+{
+    facets::bits_stand(u32::get(s, at))
+}
+
+// Whether the three floats from `at` on are coordinates'.
+#[tactic(auto, unfolding(facets::specs::Facets::corner_stands, facets::specs::Facets::corner_at))]
 fn corner_taken(s: &[u8], at: usize) -> bool
     requires { at + 12 ≤ length s.now }
     ensures { result ≡ corner_stands (corner_at s.now at) }
 {
-    if !facets::bits_stand(codec::get_u32(s, at)) {
-        return false;
-    }
-    if !facets::bits_stand(codec::get_u32(s, at + 4)) {
-        return false;
-    }
-    facets::bits_stand(codec::get_u32(s, at + 8))
+    float_taken(s, at) && float_taken(s, at + 4) && float_taken(s, at + 8)
 }
 
 // The float that four bytes give, which is a coordinate's.
@@ -30,10 +34,11 @@ fn float_at(s: &[u8], at: usize) -> f32
     requires { (at + 4 ≤ length s.now) × (is_image (of_bits binary32 (field 4 s.now at)) ≡ true) }
     ensures { result ≡ of_bits binary32 (field 4 s.now at) }
 {
-    f32::from_bits(codec::get_u32(s, at))
+    f32::from_bits(u32::get(s, at))
 }
 
 // The corner that twelve bytes give.
+#[tactic(auto, unfolding(facets::specs::Facets::corner_stands, facets::specs::Facets::corner_at))]
 fn get_corner(s: &[u8], at: usize) -> Corner
     requires { (at + 12 ≤ length s.now) × (corner_stands (corner_at s.now at) ≡ true) }
     ensures { result ≡ corner_at s.now at }
@@ -46,49 +51,43 @@ fn get_corner(s: &[u8], at: usize) -> Corner
 }
 
 // The three coordinates of a corner that has them.
+#[tactic(auto, using(codec::proofs::Runs::put_sets), unfolding(facets::specs::Facets::corner_words))]
 fn put_words(out: &mut [i32], at: usize, c: Corner)
     requires { (at + 3 ≤ length out.old) × (corner_stands c ≡ true) }
     ensures { out.new ≡ sets out.old at (corner_words c) }
 {
-    out[at] = facets::word_of(c.x);
-    out[at + 1] = facets::word_of(c.y);
-    out[at + 2] = facets::word_of(c.z);
+    out[at..at + 3].copy_from_slice(&c.words());
 }
 
 // Whether all floats of the facet are coordinates'. Normal and attribute are not looked at.
+#[tactic(auto, unfolding(facets::specs::Facets::facet_stands, facets::specs::Facets::facet_at))]
 pub fn facet_taken(s: &[u8], at: usize) -> bool
     requires { at + 50 ≤ length s.now }
     ensures { result ≡ facet_stands (facet_at s.now at) }
 {
-    if !corner_taken(s, at + 12) {
-        return false;
-    }
-    if !corner_taken(s, at + 36) {
-        return false;
-    }
-    corner_taken(s, at + 24)
+    corner_taken(s, at + 12) && corner_taken(s, at + 36) && corner_taken(s, at + 24)
 }
 
 // The corners of a facet in the sheet's order.
+#[tactic(auto, unfolding(facets::specs::Facets::facet_stands, facets::specs::Facets::facet_at))]
 pub fn get_facet(s: &[u8], at: usize) -> Facet
     requires { (at + 50 ≤ length s.now) × (facet_stands (facet_at s.now at) ≡ true) }
     ensures { result ≡ facet_at s.now at }
 {
-    let a = get_corner(s, at + 12);
-    let c = get_corner(s, at + 24);
-    let b = get_corner(s, at + 36);
-    Facet { a: a, b: b, c: c }
+    Facet {
+        a: get_corner(s, at + 12),
+        b: get_corner(s, at + 36),
+        c: get_corner(s, at + 24),
+    }
 }
 
 // Its nine coordinates.
+#[tactic(auto, using(facets::proofs::Facets::nine), unfolding(facets::specs::Facets::facet_stands))]
 pub fn put_nine(out: &mut [i32], at: usize, f: Facet)
     requires { (at + 9 ≤ length out.old) × (facet_stands f ≡ true) }
     ensures { out.new ≡ sets out.old at (facet_words f) }
 {
-    let a = f.a;
-    let b = f.b;
-    let c = f.c;
-    put_words(out, at, a);
-    put_words(out, at + 3, b);
-    put_words(out, at + 6, c);
+    put_words(out, at, f.a);
+    put_words(out, at + 3, f.b);
+    put_words(out, at + 6, f.c);
 }

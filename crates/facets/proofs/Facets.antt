@@ -49,12 +49,12 @@ corner_length c = refl
 abbrev pub no_normal : List ℕ
 no_normal = le 4 0 ++ le 4 0 ++ le 4 0
 
-pub seven : (l : List ℕ) {l₁ l₂ l₃ l₄ l₅ l₆ l₇ : List ℕ} (at : ℕ) (a b c : Corner)
-    → l₁ ≡ sets l at (le 4 0) → l₂ ≡ sets l₁ (at + 4) (le 4 0) → l₃ ≡ sets l₂ (at + 8) (le 4 0)
+pub five : (l : List ℕ) {l₃ l₄ l₅ l₆ l₇ : List ℕ} (at : ℕ) (a b c : Corner)
+    → l₃ ≡ sets l at no_normal
     → l₄ ≡ sets l₃ (at + 12) (corner_bytes a) → l₅ ≡ sets l₄ (at + 24) (corner_bytes c) → l₆ ≡ sets l₅ (at + 36) (corner_bytes b)
     → l₇ ≡ sets l₆ (at + 48) (le 2 0) → l₇ ≡ sets l at (facet_bytes a b c)
 unfolding facet_bytes
-seven l at a b c e₁ e₂ e₃ e₄ e₅ e₆ e₇ =
+five l at a b c e₃ e₄ e₅ e₆ e₇ =
     let w₁ = no_normal ++ corner_bytes a in
     let w₂ = w₁ ++ corner_bytes c in
     let w₃ = w₂ ++ corner_bytes b in
@@ -64,8 +64,7 @@ seven l at a b c e₁ e₂ e₃ e₄ e₅ e₆ e₇ =
     sets_next l at (at + 48) w₃ (le 2 0) (omega arith)
     (sets_next l at (at + 36) w₂ (corner_bytes b) (omega arith)
     (sets_next l at (at + 24) w₁ (corner_bytes c) (omega arith)
-    (sets_next l at (at + 12) no_normal (corner_bytes a) refl
-    (sets_next l at (at + 8) (le 4 0 ++ le 4 0) (le 4 0) refl (sets_next l at (at + 4) (le 4 0) (le 4 0) refl e₁ e₂) e₃) e₄) e₅) e₆) e₇
+    (sets_next l at (at + 12) no_normal (corner_bytes a) refl e₃ e₄) e₅) e₆) e₇
 
 -- the coordinates of three corners, one after another
 pub nine : (l : List ℤ) {l₁ l₂ l₃ : List ℤ} (at : ℕ) (f : Facet)

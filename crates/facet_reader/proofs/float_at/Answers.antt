@@ -8,7 +8,4 @@ use Rattle.facet_reader.proofs.float_at.Goals as goal
 
 pub float_from_bits-result : goal.float_from_bits-result
 float_from_bits-result c =
-    number_bits _ (image_number _ (ap (λ (b : ℕ). is_image (of_bits binary32 b)) c.get_u32.ensures ∙ c.requires.1))
-
-pub returns : goal.returns
-returns c = ap (of_bits binary32) c.get_u32.ensures
+    number_bits _ (image_number _ (ap (λ (b : ℕ). is_image (of_bits binary32 b)) c.get.ensures ∙ c.requires.1))
