@@ -4,11 +4,10 @@ use Rattle.blocks.proofs.Whole.{whole_block, whole_cubes}
 use Rattle.marking.proofs.mark_crossed.Goals as goal
 
 pub mark_block-requires : goal.mark_block-requires
-mark_block-requires c =
-    (c.requires.sized.0, c.requires.sized.1, whole_block, c.requires.sized.2.fit, c.requires.nz_in_bounds)
+mark_block-requires c = (whole_block, c.requires.fit)
 
 pub returns : goal.returns
-returns c =
+returns c s h =
     let a = c.args in
-    λ s h. whole_cubes (lattice a.sizes s) a.rows.now a.may.now c.requires.sized.0 h a.found.now _ c.requires.sized.2
-    c.mark_block.ensures
+    let r = a.rows.now in
+    whole_cubes (lattice r.sizes s) r.sides.now r.cubes.now r.sized h a.found.now _ c.requires c.mark_block.ensures
