@@ -16,10 +16,6 @@ use Rattle.std.specs.Prelude.{Option, Some, None, MatchOption, unwrap_or}
 use Rattle.std.specs.List.{AllWithin, HoldsAt}
 use Rattle.lists.proofs.Firsts.{first_before, first_found, first_missing}
 use Rattle.paper.specs.declared.Verdict.{Verdict}
-use Rattle.paper.specs.declared.Refusal.{Refusal}
-use Rattle.paper.specs.declared.Refusal.TheVariants.{Axes, SampleCount, WorkRoom, NoCube, NotCrossed, VertexRoom, TriangleRoom, ByteRoom, CountLimit, ShortFile, Mark, Layout}
-use Rattle.paper.specs.declared.Refusal.TheVariants.{Index, OtherSizes, Record, Triangle, Absent, Grey, LevelOrder, Coordinate, Scale}
-use Rattle.paper.specs.Refused.{verdict_of}
 use Rattle.paper.specs.Tests.{Test, test, test_at, judge}
 use Rattle.paper.specs.Room.{output_after}
 use Rattle.paper.proofs.Judged.{Numbered, Passed, judge_all}
@@ -51,32 +47,6 @@ module _ {A B : Type 0} (f : A → B) where
       ∙ ap (λ (k : ℕ). map f xs ++ drop k old) (sym (length-map xs f))
 
 -- ── the tests ──
-
--- no refusal has the number 0
-pub told : (e : Refusal) → 0 < (verdict_of e).number
-told e = elim e as (λ (k : Refusal). 0 < (verdict_of k).number) [
-  | Axes ↦ omega arith
-  | SampleCount ↦ omega arith
-  | WorkRoom ↦ omega arith
-  | NoCube ↦ omega arith
-  | NotCrossed ↦ omega arith
-  | VertexRoom ↦ omega arith
-  | TriangleRoom ↦ omega arith
-  | ByteRoom ↦ omega arith
-  | CountLimit ↦ omega arith
-  | ShortFile ↦ omega arith
-  | Mark ↦ omega arith
-  | Layout ↦ omega arith
-  | Index i ↦ omega arith
-  | OtherSizes ↦ omega arith
-  | Record i ↦ omega arith
-  | Triangle i ↦ omega arith
-  | Absent ↦ omega arith
-  | Grey i ↦ omega arith
-  | LevelOrder ↦ omega arith
-  | Coordinate i ↦ omega arith
-  | Scale ↦ omega arith
-]
 
 pub all_greys : (vs : List Float) → first_bad vs ≡ length vs → AllGreys vs
 unfolding first_bad

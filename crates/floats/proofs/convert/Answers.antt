@@ -7,14 +7,15 @@ use lib.Ieee.{Float}
 use Rattle.lists.specs.Lists.{over}
 use Rattle.greys.specs.Sample.{sample_of}
 use Rattle.greys.specs.Within.{Fine}
-use Rattle.greys.proofs.Converting.{told, refused, fine, done}
+use Rattle.paper.proofs.Refusals.{some_number}
+use Rattle.greys.proofs.Converting.{refused, fine, done}
 use Rattle.floats.proofs.convert.Goals as goal
 
 pub returns-in_err-convertible : goal.returns-in_err-convertible
 returns-in_err-convertible c =
     let a = c.args in
     let p = err_from_is_err_and c.from_residual.result c.from_residual.ensures.1 in
-    rw (p.1, p.2) (refused a.level a.scale a.voxels.now a.samples.now _ c.in_err-convertible.ensures (λ q. omega (arith, told)))
+    rw (p.1, p.2) (refused a.level a.scale a.voxels.now a.samples.now _ c.in_err-convertible.ensures (λ q. omega (arith, some_number)))
 
 pub put_samples-requires : goal.put_samples-requires
 put_samples-requires c =
