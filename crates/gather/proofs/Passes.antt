@@ -4,7 +4,6 @@ use mathlib.Core.Bool.{Bool, true, false, not, ◌&&◌}
 use mathlib.Core.List.{List, [], ◌∷◌, ◌++◌, append-nil}
 use Prim.Native.Nat.{ℕ, zero, suc, ◌+◌, ◌-◌, ◌*◌, ◌^◌, ◌≤◌, ◌<◌}
 use native.Mathlib.Numerals.{add-one}
-use native.Mathlib.Nat.{mul-add}
 use native.Mathlib.Omega.{arith}
 use lib.Dec.{T}
 use lib.IntN.{ℤ}
@@ -24,8 +23,8 @@ use Rattle.bits.specs.Words.{bit, less}
 use Rattle.bits.proofs.Bits.{bit_and_law, bit_not, bit_of_0}
 use Rattle.rows.specs.Rows.{row_no, is_one_of, HasBoth, HasCubes}
 use Rattle.rows.proofs.Making.{row_lt}
-use Rattle.ways.specs.Ways.{words, plan_of}
-use Rattle.spread.specs.Flooded.{Empty, cell, room, Flooded}
+use Rattle.ways.specs.Ways.{plan_of}
+use Rattle.spread.specs.Flooded.{cell, room, Flooded}
 use Rattle.spread.proofs.Visiting.{has_more}
 use Rattle.spread.proofs.Joining.{joined}
 use Rattle.tray.specs.Pieces.{begins, scanned}
@@ -49,41 +48,9 @@ module _ (z : Sizes) (rows may : List ℕ) where
   pub fit_at : {k l : ℕ} {h : Held} → k ≡ l → Fit z rows may k h → Fit z rows may l h
   fit_at {h = h} e f = subst (λ (n : ℕ). Fit z rows may n h) e f
 
--- a pass along cubes: what it holds, nothing due, and no slice of another length
-pub record Walk (z : Sizes) (rows may : List ℕ) (j k : ℕ) (before after : Held) (due₀ due : List ℕ) : Type 0 where
-  pub leads : Leads z rows may j k before after
-  pub empty : Empty (words z) due
-  pub same_vis : length after.vis ≡ length before.vis
-  pub same_due : length due ≡ length due₀
-  pub same_waiting : length after.waiting ≡ length before.waiting
-  pub same_list : length after.list ≡ length before.list
-
-pub walk_none : (z : Sizes) (rows may : List ℕ) (k : ℕ) (h : Held) (due : List ℕ) → Fit z rows may k h → Empty (words z) due
-    → Walk z rows may k k h h due due
-walk_none z rows may k h due f e = record {
-  leads = leads_none z rows may k h f;
-  empty = e;
-  same_vis = refl;
-  same_due = refl;
-  same_waiting = refl;
-  same_list = refl;
-}
-
-pub walk_more : (z : Sizes) (rows may : List ℕ) {i j k l : ℕ} {a b c : Held} {due₀ due₁ due : List ℕ} → Walk z rows may i j a b due₀ due₁
-    → j ≡ k → Walk z rows may k l b c due₁ due → Walk z rows may i l a c due₀ due
-walk_more z rows may {i} {j} {k} {l} {a} {b} {c} w e m = record {
-  leads = leads_join z rows may i k l a b c (leads_at z rows may refl e w.leads) m.leads;
-  empty = m.empty;
-  same_vis = m.same_vis ∙ w.same_vis;
-  same_due = m.same_due ∙ w.same_due;
-  same_waiting = m.same_waiting ∙ w.same_waiting;
-  same_list = m.same_list ∙ w.same_list;
-}
-
-pub walk_to : (z : Sizes) (rows may : List ℕ) {i j k l : ℕ} {a b : Held} {due₀ due : List ℕ} → i ≡ k → j ≡ l
-    → Walk z rows may i j a b due₀ due → Walk z rows may k l a b due₀ due
-walk_to z rows may {i} {j} {k} {l} {a} {b} {due₀} {due} e f w =
-    subst (λ (n : ℕ). Walk z rows may n l a b due₀ due) e (subst (λ (n : ℕ). Walk z rows may i n a b due₀ due) f w)
+  -- on from there
+  pub leads_more : {i j k l m : ℕ} {a b c : Held} → Leads z rows may i j a b → j ≡ k → Leads z rows may k l b c → l ≡ m → Leads z rows may i m a c
+  leads_more {i} {j} {k} {l} {m} {a} {b} {c} h e g f = leads_join i k m a b c (leads_at refl e h) (leads_at refl f g)
 
 -- ── one cube ──
 
@@ -213,19 +180,6 @@ cube_in_row z x y w = omega arith
 
 pub next_cube : (z : Sizes) (x y w : ℕ) → cube_no z (place x y w) + 1 ≡ row_start z y w + (x + 1)
 next_cube z x y w = omega (arith, cube_in_row z x y w)
-
-pub next_row : (z : Sizes) (y w : ℕ) → row_start z y w + (z.nx - 1) ≡ row_start z (y + 1) w
-next_row z y w =
-    let e : y + 1 + (z.ny - 1) * w ≡ y + (z.ny - 1) * w + 1 = omega arith in
-    sym (ap (λ (n : ℕ). (z.nx - 1) * n) e ∙ omega (arith, mul-add (z.nx - 1) (y + (z.ny - 1) * w) 1))
-
-pub next_layer : (z : Sizes) (w : ℕ) → row_start z (z.ny - 1) w ≡ row_start z 0 (w + 1)
-next_layer z w =
-    let e : z.ny - 1 + (z.ny - 1) * w ≡ 0 + (z.ny - 1) * (w + 1) = omega (arith, mul-add (z.ny - 1) w 1) in
-    ap (λ (n : ℕ). (z.nx - 1) * n) e
-
-pub first_cube : (z : Sizes) → 0 ≡ row_start z 0 0
-first_cube z = omega arith
 
 pub all_cubes : (z : Sizes) → row_start z 0 (z.nz - 1) ≡ cubes z
 unfolding cubes

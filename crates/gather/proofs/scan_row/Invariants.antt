@@ -1,13 +1,13 @@
 -- The pass has come to cube x of the row; a row of which nothing is left is passed at once. Assumes nothing.
-use Prim.Native.Nat.{◌+◌, ◌-◌, ◌≤◌}
-use Rattle.gather.specs.Gathering.{held, row_start}
-use Rattle.gather.proofs.Passes.{Walk}
+use Prim.Native.Nat.{◌+◌}
+use Rattle.ways.specs.Ways.{words}
+use Rattle.spread.specs.Flooded.{Empty}
+use Rattle.gather.specs.Gathering.{held, Leads, row_start}
 use Rattle.gather.proofs.scan_row.Given as goal
 
 abbrev pub invariant-loop-x : goal.invariant-loop-x
 invariant-loop-x l =
-    (l.x ≤ l.sizes.nx - 1)
-    × Walk l.sizes l.rows l.may (row_start l.sizes l.y l.z) (row_start l.sizes l.y l.z + l.x) (held l.initial.vis l.initial.waiting l.initial.list l.n) (held l.vis l.waiting l.list l.count) l.initial.due l.due
-
-abbrev pub decreases-loop-x : goal.decreases-loop-x
-decreases-loop-x l = l.sizes.nx - 1 - l.x
+    let r = l.rows in
+    let s = r.sizes in
+    let before = held l.initial.vis l.initial.waiting l.initial.list l.n in
+    Leads s r.sides.now r.cubes.now (row_start s l.y l.z) (row_start s l.y l.z + l.x) before (held l.vis l.waiting l.list l.count) × Empty (words s) l.due
