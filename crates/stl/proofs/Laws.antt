@@ -5,7 +5,7 @@ use mathlib.Core.List.{List, ◌++◌}
 use Prim.Native.Nat.{ℕ, ◌+◌, ◌*◌, ◌≤◌}
 use native.Mathlib.Omega.{arith}
 use lib.IntN.{ℤ}
-use lib.ListN.{length, get_or, length-append}
+use lib.ListN.{replicate, drop, length, get_or, length-append}
 use lib.Seq.{sets}
 use Rattle.lists.specs.Lists.{range, each, over}
 use Rattle.lists.specs.Bytes.{le}
@@ -75,3 +75,8 @@ file_stored nt vs ts l h e₁ e₂ e₃ =
     sets_next l 0 84 (header ++ le 4 nt) (each (triangle_bytes vs ts) (range 0 nt)) n
     (sets_next l 0 80 header (le 4 nt) (omega (arith, header_long)) e₁ e₂) e₃
     ∙ sets_front l (stl_bytes nt vs ts) (omega (arith, file_long nt vs ts))
+
+-- the header, as zeros that the front of a list is filled with
+pub header_put : (l z : List ℕ) → z ≡ replicate 80 0 → 80 ≤ length l → z ++ drop 80 l ≡ sets l 0 header
+unfolding header
+header_put l z e h = rw (e, sets_front l (replicate 80 0) (omega arith))

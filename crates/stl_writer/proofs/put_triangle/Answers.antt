@@ -1,4 +1,4 @@
--- `stl::put_triangle` meets its contract. Assumes nothing.
+-- `stl_writer::put_triangle` meets its contract. Assumes nothing.
 use mathlib.Core.Path.{◌∙◌}
 use native.Mathlib.Omega.{arith}
 use Rattle.stl.specs.Stl.{triangle_bytes}
@@ -20,7 +20,7 @@ corner_at-c-requires c =
 pub put_facet-requires : goal.put_facet-requires
 put_facet-requires c =
     let w = corners_within _ _ _ c.requires.0.within in (
-      omega arith,
+      omega (arith, c.stl_length.ensures),
       rw c.corner_at-a.ensures (vertex_numbers_law _ _ w.0),
       rw c.corner_at-b.ensures (vertex_numbers_law _ _ w.1),
       rw c.corner_at-c.ensures (vertex_numbers_law _ _ w.2),
@@ -29,4 +29,4 @@ put_facet-requires c =
 pub returns : goal.returns
 unfolding triangle_bytes
 returns c =
-    c.put_facet.ensures ∙ rw (c.corner_at-a.ensures, c.corner_at-b.ensures, c.corner_at-c.ensures)
+    rw c.stl_length.ensures at c.put_facet.ensures ∙ rw (c.corner_at-a.ensures, c.corner_at-b.ensures, c.corner_at-c.ensures)

@@ -1,33 +1,27 @@
--- `stl::write` meets its contract: a refusal stores nothing, and what passes the tests is stored whole. Assumes nothing.
-use native.Mathlib.Omega.{arith}
-use lib.ListN.{length}
+-- `stl_writer::write` meets its contract: a refusal stores nothing, and what passes the tests is stored whole. Assumes nothing.
+use Rattle.std.proofs.Common.{◌≡◌, arith, refl, length, rules, Err}
+use Rattle.paper.specs.Tests.{verdict}
 use Rattle.stl.specs.Within.{Fine}
 use Rattle.stl.proofs.Answers.{fine, write_refused, write_done}
 use Rattle.stl_writer.proofs.write.Goals as goal
-use Rattle.stl_writer.proofs.write.Goals.{Else-v-ne0}
+use Rattle.stl_writer.proofs.write.Goals.{In_ok-writable}
 
-accepted : (c : goal.Else-v-ne0) → let a = c.args in Fine a.nt a.vertices.now a.triangles.now (length a.bytes.now)
-accepted c =
-    let a = c.args in
-    fine a.nv a.nt a.vertices.now a.triangles.now a.bytes.now _ c.writable-v.ensures c.if-v-ne0.false
+accepted : (c : goal.In_ok-writable) → let a = c.args in Fine a.nt a.vertices.now a.triangles.now (length a.bytes.now)
+accepted c = let a = c.args in fine a.nv a.nt a.vertices.now a.triangles.now a.bytes.now (verdict 0 0) c.in_ok-writable.ensures refl
 
-pub returns-then-v-ne0 : goal.returns-then-v-ne0
-returns-then-v-ne0 c =
+pub returns-in_err-writable : goal.returns-in_err-writable
+returns-in_err-writable c =
     let a = c.args in
-    write_refused a.nv a.nt a.vertices.now a.triangles.now a.bytes.now _
-    c.writable-v.ensures c.if-v-ne0.true
+    let e : c.from_residual.result ≡ Err c.in_err-writable.field-0.0 = search rules in
+    rw e (write_refused a.nv a.nt a.vertices.now a.triangles.now a.bytes.now _ c.in_err-writable.ensures)
 
 pub put_file-requires : goal.put_file-requires
-put_file-requires c = accepted (goal.at.put_file-requires c).Else-v-ne0
+put_file-requires c = accepted (goal.at.put_file-requires c).In_ok-writable
 
-pub overflow_mul-result : goal.overflow_mul-result
-overflow_mul-result c = omega (arith, (accepted (goal.at.overflow_mul-result c).Else-v-ne0).most)
-
-pub overflow_add-result : goal.overflow_add-result
-overflow_add-result c = omega (arith, (accepted (goal.at.overflow_add-result c).Else-v-ne0).most)
+pub stl_length-requires : goal.stl_length-requires
+stl_length-requires c = omega (arith, accepted (goal.at.stl_length-requires c).In_ok-writable)
 
 pub returns : goal.returns
 returns c =
     let a = c.args in
-    write_done a.nv a.nt a.vertices.now a.triangles.now a.bytes.now _
-    c.writable-v.ensures c.if-v-ne0.false _ c.put_file.ensures
+    write_done a.nv a.nt a.vertices.now a.triangles.now a.bytes.now c.in_ok-writable.ensures _ c.stl_length.ensures _ c.put_file.ensures
