@@ -50,13 +50,16 @@ fn get_corner(s: &[u8], at: usize) -> Corner
     }
 }
 
-// The three coordinates of a corner that has them.
-#[tactic(auto, using(codec::proofs::Runs::put_sets), unfolding(facets::specs::Facets::corner_words))]
+// The three coordinates of a corner that has them, one by one: `copy_from_slice` would bring them by way of the stack.
+#[tactic(auto, unfolding(facets::specs::Facets::corner_words))]
 fn put_words(out: &mut [i32], at: usize, c: Corner)
     requires { (at + 3 ≤ length out.old) × (corner_stands c ≡ true) }
     ensures { out.new ≡ sets out.old at (corner_words c) }
 {
-    out[at..at + 3].copy_from_slice(&c.words());
+    let [x, y, z] = c.words();
+    out[at] = x;
+    out[at + 1] = y;
+    out[at + 2] = z;
 }
 
 // Whether all floats of the facet are coordinates'. Normal and attribute are not looked at.
