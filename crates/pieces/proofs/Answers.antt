@@ -29,7 +29,14 @@ use Rattle.ways.specs.Ways.{words, rows_of, plan_of}
 use Rattle.spread.specs.Flooded.{Empty}
 use Rattle.ways.proofs.Ways.{rows_few, beyond_more}
 use Rattle.spread.proofs.Finish.{empty_closed}
+use Rattle.std.specs.Prelude.{Result, Ok, Err, IsErrAnd}
+use Rattle.paper.specs.declared.Refusal.{Refusal}
+use Rattle.paper.specs.Refused.{verdict_of}
+use Rattle.paper.proofs.Refusals.{some_number}
 use Rattle.tray.specs.declared.Found.{Found}
+use Rattle.tray.specs.declared.FindError.{FindError}
+use Rattle.tray.specs.declared.FindError.TheVariants.{Refused, ListRoom}
+use Rattle.tray.specs.Told.{found_told}
 use Rattle.tray.specs.Pieces.{scanned, plain_scan, Lent, lent, piece_tests, find_number}
 use Rattle.tray.specs.Pieces.{tells, found_at, found_in, as_building, left_at, lent_after, Finds}
 use Rattle.gather.specs.Gathering.{Held, held, Fit, Gathered, Passed, Leads}
@@ -129,8 +136,9 @@ module _ (z : Sizes) (s : Sized z) (rows may vis waiting slots : List ℕ) (none
             }
 
       -- some pieces
-      module _ (some : h.count ≡ 0 → ⊥) (cube_words list list' : List ℕ) (r : ℕ) (is : r ≡ cond (leb h.count (length list)) 0 20)
-          (put : list' ≡ output_after r (take h.count h.list) list) (w : Work)
+      module _ (some : h.count ≡ 0 → ⊥) (cube_words list list' : List ℕ) (r : Result ℕ FindError)
+          (is : let m = length (take h.count h.list) in r ≡ cond (leb m (length list)) (Ok m) (Err (ListRoom m)))
+          (put : list' ≡ output_after (found_told r).number (take h.count h.list) list) (w : Work)
           (clear : w ≡ clean z (work cube_words h.waiting h.list)) where
         abbrev before : Lent
         before = lent list (work cube_words waiting slots)
@@ -142,42 +150,54 @@ module _ (z : Sizes) (s : Sized z) (rows may vis waiting slots : List ℕ) (none
             ∙ (ap (take (length (plain_scan L))) (sets_front slots (plain_scan L) fits)
             ∙ take-append_seam (plain_scan L) (drop (length (plain_scan L)) slots))
 
-        number_is : r ≡ (judge (piece_tests (length (plain_scan L)) (length list))).number
+        abbrev found : ℕ → Bool → Found
+        found N fits = record { number = cond fits 0 20; pieces = N }
+
+        -- 0 and 20 tell how many, and clear
+        told : let N = length (plain_scan L) in found_told r ≡ found N (leb N (length list))
+        told =
+            ap found_told (is ∙ ap (λ (l : List ℕ). cond (leb (length l) (length list)) (Ok (length l)) (Err (ListRoom (length l)))) taken)
+            ∙ go (length (plain_scan L)) (leb (length (plain_scan L)) (length list))
+          where
+            go : (N : ℕ) (b : Bool) → found_told (cond b (Ok N) (Err (ListRoom N))) ≡ found N b
+            go N true = refl
+            go N false = refl
+
+        number_is : (found_told r).number ≡ (judge (piece_tests (length (plain_scan L)) (length list))).number
         unfolding piece_tests
         number_is =
             let N = length (plain_scan L) in
             let fits = leb N (length list) in
-            is
-            ∙ ((λ i. cond (leb (count_is i) (length list)) 0 20)
+            ap (λ (f : Found). f.number) told
             ∙ sym (ap (λ (b : Bool). (cond b (cond fits (verdict 0 0) (verdict 20 0)) (verdict 5 0)).number)
-            (le-leb 1 N (omega (arith, count_is))) ∙ inner fits))
+            (le-leb 1 N (omega (arith, count_is))) ∙ inner fits)
           where
             inner : (b : Bool) → (cond b (verdict 0 0) (verdict 20 0)).number ≡ cond b 0 20
             inner true = refl
             inner false = refl
 
-        -- 0 and 20 tell how many, and clear
-        both : (P : ℕ → Type 0) → P 0 → P 20 → P r
-        both P p q = subst P (sym is) (go (leb h.count (length list)))
+        both : (P : ℕ → Type 0) → P 0 → P 20 → P (found_told r).number
+        both P p q = subst P (sym (ap (λ (f : Found). f.number) told)) (go (leb (length (plain_scan L)) (length list)))
           where
             go : (b : Bool) → P (cond b 0 20)
             go true = p
             go false = q
 
-        pub finds_some : FindsPast L before (record { number = r; pieces = h.count }) (lent list' w)
+        pub finds_some : FindsPast L before (found_told r) (lent list' w)
         finds_some =
             let N = length (plain_scan L) in
-            let told : tells r ≡ true = both (λ n. tells n ≡ true) refl refl in
-            let clear_r : clears (as_building r) ≡ true = both (λ n. clears (as_building n) ≡ true) refl refl in
-            let a : ◌≡◌ {A = Found} (record { number = r; pieces = h.count }) (found_at r N) =
-            λ i. record { number = r; pieces = (count_is ∙ sym (ap (λ (b : Bool). cond b N 0) told)) i } in
-            let l : list' ≡ output_after r (plain_scan L) list = put ∙ ap (λ (m : List ℕ). output_after r m list) taken in
+            let n = (found_told r).number in
+            let tells_n : tells n ≡ true = both (λ n. tells n ≡ true) refl refl in
+            let clear_n : clears (as_building n) ≡ true = both (λ n. clears (as_building n) ≡ true) refl refl in
+            let a : found_told r ≡ found_at n N =
+            λ i. record { number = n; pieces = (ap (λ (f : Found). f.pieces) told ∙ sym (ap (λ (b : Bool). cond b N 0) tells_n)) i } in
+            let l : list' ≡ output_after n (plain_scan L) list = put ∙ ap (λ (m : List ℕ). output_after n m list) taken in
             let q = clear_beyond (needed z) waiting h.waiting on_waiting in
             let t = clear_beyond (needed_slots z) slots h.list on_slots in
-            let c : w ≡ work_after (as_building r) z (work cube_words waiting slots) =
+            let c : w ≡ work_after (as_building n) z (work cube_words waiting slots) =
             clear
             ∙ ((λ i. work (cleared (needed z) cube_words) (q i) (t i))
-            ∙ sym (work_cleared (as_building r) z (work cube_words waiting slots) clear_r)) in
+            ∙ sym (work_cleared (as_building n) z (work cube_words waiting slots) clear_n)) in
             record {
               answer = a ∙ ap (λ (k : ℕ). found_at k N) number_is;
               left = (λ i. lent (l i) (c i)) ∙ ap (λ (k : ℕ). left_at k L before) number_is;
@@ -193,7 +213,7 @@ module _ (L : Lattice) (l : Lent) where
   rest = piece_tests (length (plain_scan L)) (length l.list)
 
   -- a refusal of the shape touches nothing
-  pub refused : (r : ℕ) → r ≡ (judge shape).number → (r ≡ 0 → ⊥) → Finds L l (record { number = r; pieces = 0 }) l
+  refused : (r : ℕ) → r ≡ (judge shape).number → (r ≡ 0 → ⊥) → Finds L l (record { number = r; pieces = 0 }) l
   unfolding find_number found_in lent_after output_after shape_tests
   refused r e h =
       let no : (judge shape).number ≡ 0 → ⊥ = λ q. h (e ∙ q) in
@@ -211,6 +231,12 @@ module _ (L : Lattice) (l : Lent) where
             sym (ap (λ (k : ℕ). left_at k L l) n
             ∙ (λ i. lent (cond (q i) (over (plain_scan L) l.list) l.list) (work_kept (as_building r) L.size l.work keeps i)));
       }
+
+  pub stopped : (e : Refusal) (r : Result ℕ FindError) → verdict_of e ≡ judge shape → IsErrAnd r (λ x. x ≡ Refused e) → Finds L l (found_told r) l
+  stopped e (Ok n) q h = absurd h
+  stopped e (Err x) q h =
+      subst (λ (f : Found). Finds L l f l) (sym (ap (λ (y : FindError). found_told (Err y)) h))
+      (refused (verdict_of e).number (ap (λ (v : Verdict). v.number) q) (λ z. omega (arith, some_number e)))
 
   -- past them
   pub settled : (judge shape).number ≡ 0 → (r : Found) (after : Lent) → FindsPast L l r after → Finds L l r after

@@ -1,80 +1,65 @@
 // The lowest cube of each piece of a lattice.
 #![tactic(auto)]
 
-ghost use Rattle.std.specs.Prelude.{◌≡◌, cond, List, ◌≤◌, leb, ℤ, length, take};
+ghost use Rattle.std.specs.Prelude.{◌≡◌, if◌then◌else◌, List, ◌≤◌, nat_le, ℤ, length};
 ghost use Rattle.paper.specs.Lattice.{lattice};
 ghost use Rattle.paper.specs.Room.{work, lengths, output_after};
-ghost use Rattle.paper.specs.Within.{Sized, Roomy};
+ghost use Rattle.paper.specs.Within.{Roomy};
 ghost use Rattle.rows.specs.Rows.{HasBoth};
-ghost use Rattle.ways.specs.Ways.{words as row_words};
 ghost use Rattle.tray.specs.Pieces.{lent, Finds};
+ghost use Rattle.tray.specs.Told.{found_told};
+ghost use Rattle.tray.specs.declared.FindError.TheVariants.{ListRoom};
 ghost use Rattle.pieces.specs.Past.{FindsPast};
 
-use paper::Sizes;
-use tray::Found;
+use lattice::Volume;
+use paper::{Refusal, Sizes};
+use rows::Rows;
+use tray::FindError;
 
-// Test 20; where it is passed, the first n numbers of `from` are written to the list.
-fn put_list(from: &[u32], n: usize, list: &mut [u32]) -> usize
-    requires { n ≤ length from.now }
-    ensures { (result ≡ cond (leb n (length list.old)) 0 20)
-        × (list.new ≡ output_after result (take n from.now) list.old) }
+// Test 20; where it is passed, the pieces are written to the front of the list. How many they are is returned.
+#[tactic(auto, unfolding(paper::specs::Room::output_after))]
+fn put_list(pieces: &[u32], list: &mut [u32]) -> Result<usize, FindError>
+    ensures room { let n = length pieces.now in
+        result ≡ (if nat_le n (length list.old) then Ok n else Err (ListRoom n)) }
+    ensures put { list.new ≡ output_after (found_told result).number pieces.now list.old }
 {
+    let n = pieces.len();
     if list.len() < n {
-        return 20;
+        return Err(FindError::ListRoom(n));
     }
-    let mut i = 0;
-    while i < n {
-        list[i] = from[i];
-        i += 1;
-    }
-    0
+    list[..n].copy_from_slice(pieces);
+    Ok(n)
 }
 
-// The pieces of a lattice that has these rows, of sides and of cubes that may be visited, past tests 1 to 3.
+// The pieces of a lattice that has these rows, past tests 1 to 3.
 fn find_past(
-    rows: &[u64],
-    may: &[u64],
-    sizes: Sizes,
+    rows: &Rows,
     list: &mut [u32],
     words: &mut [u16],
     waiting: &mut [u32],
     slots: &mut [u32],
-) -> Found
-    requires { Sized sizes × (row_words sizes ≤ length rows.now) × Roomy sizes (lengths (work words.old waiting.old slots.old))
-        × (row_words sizes ≤ length may.now) }
-    ensures { let before = lent list.old (work words.old waiting.old slots.old) in
+) -> Result<usize, FindError>
+    requires { Roomy rows.now.sizes (lengths (work words.old waiting.old slots.old)) }
+    ensures { let z = rows.now.sizes in
+        let before = lent list.old (work words.old waiting.old slots.old) in
         let after = lent list.new (work words.new waiting.new slots.new) in
-        ((s : List ℤ) → HasBoth (lattice sizes s) rows.now may.now → FindsPast (lattice sizes s) before result after) }
+        ((s : List ℤ) → HasBoth (lattice z s) rows.now.sides.now rows.now.cubes.now
+        → FindsPast (lattice z s) before (found_told result) after) }
 {
     let mut found = [0u64; 4096];
     let mut vis = [0u64; 4096];
     let mut due = [0u64; 4096];
-    marking::mark_crossed(rows, may, sizes, &mut found[..]);
-    let n = gather::scan_lattice(
-        rows,
-        may,
-        sizes,
-        &found[..],
-        &mut vis[..],
-        &mut due[..],
-        waiting,
-        slots,
-    );
+    marking::mark_crossed(rows, &mut found);
+    let n = gather::scan_lattice(rows, &found, &mut vis, &mut due, waiting, slots);
     if n == 0 {
-        return Found {
-            number: 5,
-            pieces: 0,
-        };
+        return Err(FindError::Refused(Refusal::NotCrossed));
     }
-    let number = put_list(slots, n, list);
-    clear::clear_work(sizes, words, waiting, slots);
-    Found {
-        number: number,
-        pieces: n,
-    }
+    let listed = put_list(&slots[..n], list);
+    clear::clear_work(rows.sizes, words, waiting, slots);
+    listed
 }
 
-// The lowest cube of each piece by rising number, or the number of the first test that fails.
+// The lowest cube of each piece by rising number, and how many they are, or the first test that fails.
 pub fn find(
     samples: &[i16],
     sizes: Sizes,
@@ -82,21 +67,20 @@ pub fn find(
     words: &mut [u16],
     waiting: &mut [u32],
     slots: &mut [u32],
-) -> Found
+) -> Result<usize, FindError>
     ensures { let before = lent list.old (work words.old waiting.old slots.old) in
         let after = lent list.new (work words.new waiting.new slots.new) in
-        Finds (lattice sizes samples.now) before result after }
+        Finds (lattice sizes samples.now) before (found_told result) after }
 {
-    let number = ready::shape(samples, sizes, words.len(), waiting.len(), slots.len());
-    if number != 0 {
-        return Found {
-            number: number,
-            pieces: 0,
-        };
-    }
+    ready::shape(samples, sizes, words.len(), waiting.len(), slots.len())?;
     let mut rows = [0u64; 4096];
     let mut may = [0u64; 4096];
-    sampling::sample_rows(samples, sizes, &mut rows[..], &mut may[..]);
-    sampling::free_rows(sizes, &mut may[..]);
-    find_past(&rows[..], &may[..], sizes, list, words, waiting, slots)
+    sampling::sample_rows(&Volume { sizes, samples }, &mut rows, &mut may);
+    sampling::free_rows(sizes, &mut may);
+    let rows = Rows {
+        sizes,
+        sides: &rows,
+        cubes: &may,
+    };
+    find_past(&rows, list, words, waiting, slots)
 }

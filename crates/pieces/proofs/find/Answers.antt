@@ -5,27 +5,16 @@ use Prim.Native.Nat.{ℕ, ◌*◌, ◌≤◌}
 use native.Mathlib.Omega.{arith}
 use lib.ListN.{length, replicate, length-replicate}
 use Rattle.lists.specs.Lists.{over}
+use Rattle.paper.specs.declared.Verdict.{Verdict}
 use Rattle.paper.specs.Lattice.{Lattice, lattice}
 use Rattle.paper.specs.Room.{work}
 use Rattle.paper.specs.Within.{Full}
 use Rattle.rows.specs.Rows.{HasRows, HasFree, HasBoth, side_rows, fill_rows, free_rows}
 use Rattle.rows.proofs.Cubes.{made_rows, made_free}
 use Rattle.ways.proofs.Ways.{words_le}
-use Rattle.tray.specs.Pieces.{Lent, lent}
-use Rattle.pieces.proofs.Answers.{refused, settled}
+use Rattle.tray.specs.Pieces.{lent}
+use Rattle.pieces.proofs.Answers.{stopped, settled}
 use Rattle.pieces.proofs.find.Goals as goal
-use Rattle.pieces.proofs.find.Goals.{Else-number-ne0, Start}
-
-abbrev L : goal.Start → Lattice
-L s = lattice s.args.sizes s.args.samples.now
-
-abbrev given : goal.Start → Lent
-given s = lent s.args.list.now (work s.args.words.now s.args.waiting.now s.args.slots.now)
-
-abbrev full : (c : goal.Else-number-ne0) → Full (L (goal.at.Else-number-ne0 c).Start)
-full c = c.shape-number.ensures.full c.if-number-ne0.false
-
--- ── the rows that were made ──
 
 abbrev zeros : List ℕ
 zeros = replicate 4096 0
@@ -41,29 +30,18 @@ made L f rows fills may e g h = record {
       subst (HasFree L) (sym (h ∙ ap (λ (l : List ℕ). over (free_rows L.size l) l) g)) (made_free L zeros (rows_fit L f));
 }
 
-pub returns-then-number-ne0 : goal.returns-then-number-ne0
-returns-then-number-ne0 c =
-    refused (L (goal.at.returns-then-number-ne0 c).Start) (given (goal.at.returns-then-number-ne0 c).Start) c.shape-number.result c.shape-number.ensures.answer c.if-number-ne0.true
-
-pub sample_rows-requires : goal.sample_rows-requires
-sample_rows-requires c =
-    let f = full (goal.at.sample_rows-requires c).Else-number-ne0 in
-    (f, rows_fit _ f, rows_fit _ f)
-
-pub free_rows-requires : goal.free_rows-requires
-free_rows-requires c =
-    let f = full (goal.at.free_rows-requires c).Else-number-ne0 in
-    (f.sized, omega (arith, rows_fit _ f, c.sample_rows.auto))
-
-pub find_past-requires : goal.find_past-requires
-find_past-requires c =
-    let e = c.sample_rows.ensures in
-    let both = made _ (full (goal.at.find_past-requires c).Else-number-ne0) _ _ _ e.0 e.1 c.free_rows.ensures in
-    ((full (goal.at.find_past-requires c).Else-number-ne0).sized, both.sides.long, c.shape-number.ensures.roomy c.if-number-ne0.false, both.free.long)
+pub returns-in_err-shape : goal.returns-in_err-shape
+returns-in_err-shape c =
+    let a = c.args in
+    stopped (lattice a.sizes a.samples.now) (lent a.list.now (work a.words.now a.waiting.now a.slots.now)) _ _ c.in_err-shape.ensures.answer
+    c.from_residual.ensures.1
 
 pub returns : goal.returns
 returns c =
+    let a = c.args in
+    let L = lattice a.sizes a.samples.now in
+    let s = c.in_ok-shape.ensures in
     let e = c.sample_rows.ensures in
-    let both = made _ (full (goal.at.returns c).Else-number-ne0) _ _ _ e.0 e.1 c.free_rows.ensures in
-    settled (L (goal.at.returns c).Start) (given (goal.at.returns c).Start) (sym c.shape-number.ensures.answer ∙ c.if-number-ne0.false) _ _
-    (c.find_past.ensures c.args.samples.now both)
+    let both = made L s.full _ _ _ e.0 e.1 c.free_rows.ensures in
+    settled L (lent a.list.now (work a.words.now a.waiting.now a.slots.now)) (ap (λ (v : Verdict). v.number) (sym s.answer)) _ _
+    (c.find_past.ensures a.samples.now both)
