@@ -70,7 +70,9 @@ held_law (fin false m e) r a c v i = elim i [
 
     back : r ≡ float_min most (fin false m e) → Dec (m * up e < 32767 * down e) → Kept (fin false m e) r a c ⊎ Cut r a c
     back q (yes l) = inl (record { small = small (omega arith); is = q ∙ rw (from_most m e, lt-leb (32767 * down e) (m * up e) l) })
-    back q (no l) = inr (record { large = large (omega arith); is = q ∙ rw (from_most m e, le-leb (32767 * down e) (m * up e) (omega arith)) })
+    back q (no l) =
+        let h = le-leb (32767 * down e) (m * up e) (omega arith) in
+        inr (record { large = large (omega arith); is = q ∙ rw (from_most m e, h) })
 held_law (fin true m e) r a c v i = absurd (true≢false v.is.0)
 
 -- what is held is plain, and its whole part is known

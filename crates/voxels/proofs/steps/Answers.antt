@@ -15,8 +15,8 @@ cut : (c : goal.After-min) → Plainly c.min.result (held c.args.d c.args.scale)
 unfolding of_bits of_fields odd
 cut c =
     let a = c.args in
-    stepped_is a.scale c.requires.0 a.d c.min.result c.requires.1 c.requires.2
-    (subst (λ (y : Float). IsFloatMin (mul binary32 y (of_int binary32 (pos a.scale))) most c.min.result) c.abs.ensures.value c.min.ensures.value)
+    let held_to = λ (y : Float). IsFloatMin (mul binary32 y (of_int binary32 (pos a.scale))) most c.min.result in
+    stepped_is a.scale c.requires.0 a.d c.min.result c.requires.1 c.requires.2 (subst held_to c.abs.ensures.value c.min.ensures.value)
 
 pub int_to_float-scale : goal.int_to_float-scale
 int_to_float-scale c = scale_casts c.args.scale c.requires.0
