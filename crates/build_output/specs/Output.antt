@@ -1,12 +1,18 @@
 -- What the parts of a build write and answer, under the rule that a build follows. Assumes nothing.
 use Rattle.std.specs.Prelude.{◌≡◌, List, ℕ, ◌*◌, ◌≤◌, ℤ, length}
 use Rattle.paper.specs.declared.Built.{Built}
+use Rattle.paper.specs.declared.SheetCounts.{SheetCounts}
 use Rattle.paper.specs.Lattice.{Lattice}
 use Rattle.paper.specs.Sheet.{Sheet, sheet_of, vertex_words, triangle_words}
 use Rattle.paper.specs.Tests.{judge}
 use Rattle.paper.specs.Room.{vertex_room, triangle_room, room_tests, clean, output_after}
 use Rattle.paper.specs.Build.{Lent, lent, build_rule, counted}
 use Rattle.spread.specs.Flooded.{Stands}
+use Rattle.tally.specs.declared.Counts.{Counts}
+
+-- the two counts of a sheet that its rows give
+abbrev pub sheet_counts : SheetCounts → Counts
+sheet_counts c = record { vertices = c.vertices; triangles = c.triangles }
 
 -- the lent slices of vertices and triangles
 pub record Output : Type 0 where

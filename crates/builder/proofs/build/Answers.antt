@@ -1,8 +1,13 @@
 -- Tests 1 to 5, then a build from the start. Assumes nothing.
-use mathlib.Core.Path.{sym, ◌∙◌}
+use mathlib.Core.Path.{sym, ap}
+use native.Mathlib.Omega.{arith}
+use Rattle.std.proofs.lemmas.Result.{err_from_is_err_and}
+use Rattle.paper.specs.declared.Verdict.{Verdict}
 use Rattle.paper.specs.Lattice.{Lattice, lattice}
 use Rattle.paper.specs.Room.{work}
 use Rattle.paper.specs.Build.{Lent, lent}
+use Rattle.paper.specs.Refused.{verdict_of}
+use Rattle.paper.proofs.Refusals.{some_number}
 use Rattle.builder.proofs.Answers.{refused, settled}
 use Rattle.builder.proofs.build.Goals as goal
 use Rattle.builder.proofs.build.Goals.{Start}
@@ -14,18 +19,17 @@ abbrev before : goal.Start → Lent
 before s =
     lent s.args.vertices.now s.args.triangles.now (work s.args.words.now s.args.waiting.now s.args.slots.now)
 
-pub returns-then-b-ne0 : goal.returns-then-b-ne0
-returns-then-b-ne0 c =
-    refused (L (goal.at.returns-then-b-ne0 c).Start) c.args.start (before (goal.at.returns-then-b-ne0 c).Start) c.begin-b.result.number c.begin-b.ensures.answer c.if-b-ne0.true
-
-pub build_from-requires : goal.build_from-requires
-build_from-requires c =
-    let b = c.begin-b.ensures.begins c.if-b-ne0.false in
-    (b.full, b.both, b.below, b.crosses, b.roomy)
+pub returns-in_err-k : goal.returns-in_err-k
+returns-in_err-k c =
+    let p = err_from_is_err_and c.from_residual.result c.from_residual.ensures.1 in
+    let e = c.in_err-k.field-0.0 in
+    let s = (goal.at.returns-in_err-k c).Start in
+    rw (p.1, p.2) (refused (L s) c.args.start (before s) (verdict_of e).number (ap (λ (v : Verdict). v.number) c.in_err-k.ensures.answer) (λ q. omega (arith, some_number e)))
 
 pub returns : goal.returns
 returns c =
-    let b = c.begin-b in
-    settled (L (goal.at.returns c).Start) c.args.start (before (goal.at.returns c).Start) (sym b.ensures.answer ∙ c.if-b-ne0.false) b.result.cube
-    (b.ensures.begins c.if-b-ne0.false).is _ _
-    c.build_from.ensures
+    let h = c.in_ok-k.ensures in
+    let e = c.surface_of-surface.ensures in
+    let s = (goal.at.returns c).Start in
+    let b = rw (e.0, e.1) at c.build_from.ensures in
+    settled (L s) c.args.start (before s) (sym (ap (λ (v : Verdict). v.number) h.answer)) c.in_ok-k.k h.begins.is _ _ b
