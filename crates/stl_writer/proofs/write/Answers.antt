@@ -15,6 +15,9 @@ returns-in_err-writable c =
     let e : c.from_residual.result ≡ Err c.in_err-writable.field-0.0 = search rules in
     rw e (write_refused a.nv a.nt a.vertices.now a.triangles.now a.bytes.now _ c.in_err-writable.ensures)
 
+pub invariant_of-sheet : goal.invariant_of-sheet
+invariant_of-sheet c = record { named = (accepted (goal.at.invariant_of-sheet c).In_ok-writable).named }
+
 pub put_file-requires : goal.put_file-requires
 put_file-requires c = accepted (goal.at.put_file-requires c).In_ok-writable
 

@@ -3,7 +3,7 @@ use Rattle.std.proofs.Common.{◌≡◌}
 use Rattle.std.proofs.lemmas.List.Edits.{sets}
 use Rattle.lists.specs.Lists.{range, each}
 use Rattle.stl.specs.Stl.{triangle_bytes}
-use Rattle.stl_writer.proofs.put_triangles.Given as goal
+use Rattle.stl_writer.proofs.Triangles.put_facets.Given as goal
 
 abbrev pub invariant-loop-i : goal.invariant-loop-i
-invariant-loop-i l = l.bytes ≡ sets l.initial.bytes 84 (each (triangle_bytes l.vertices l.triangles) (range 0 l.i))
+invariant-loop-i l = l.bytes ≡ sets l.initial.bytes 84 (each (triangle_bytes l.self.vertices.now l.self.triangles.now) (range 0 l.i))
