@@ -1,166 +1,110 @@
 // A file's triangles against those of the sheet, in the sheet's own order.
 #![tactic(auto)]
 
-ghost use Rattle.std.specs.Prelude.{◌≡◌, true, ◌+◌, ◌*◌, ◌≤◌, ◌<◌, length, take, drop};
-ghost use Rattle.paper.specs.File.{file_v, file_t, file_triangles};
+ghost use Rattle.std.specs.Prelude.{◌≡◌, true, ◌+◌, ◌*◌, ◌≤◌, ◌<◌, IfSome, length, take, drop};
+ghost use Rattle.paper.specs.File.{file_triangles};
 ghost use Rattle.paper.specs.Room.{needed_slots};
-ghost use Rattle.paper.specs.Within.{Sized};
-ghost use Rattle.layout.specs.Laid.{Ranged};
-ghost use Rattle.patterns.specs.Table.{steps_by, Tabled};
 ghost use Rattle.tiles.specs.Tiles.{source, row_tiles_at, layer_tiles, tiles_by};
 ghost use Rattle.check_ordered.specs.Ordered.{Follows};
 
-use paper::Sizes;
+use layout::SheetFile;
+use patterns::Table;
+use rows::Rows;
 
-// Whether two numbers of triangles are the same, and all before them were.
-fn still_index(same: bool, a: u32, b: u32) -> bool
-    ensures { result ≡ true → (same ≡ true) × (a ≡ b) }
-{
-    if a != b {
-        return false;
-    }
-    same
-}
-
-// Whether the n numbers of the triangles from number `at` on are the first n of words; nv is V.
-fn same_triangle_words(bytes: &[u8], nv: usize, at: usize, words: &[u32], n: usize) -> bool
-    requires ranged { Ranged bytes.now × (nv ≡ file_v bytes.now) }
-    requires n_bound { (at + n ≤ 3 * file_t bytes.now) × (n ≤ length words.now) }
-    ensures { result ≡ true → take n (drop at (file_triangles bytes.now)) ≡ take n words.now }
+// Whether the numbers of the triangles from number `at` on begin with these words. It looks at all, so that many are compared in a turn.
+fn same_words(file: &SheetFile, at: usize, words: &[u32]) -> bool
+    requires { at + length words.now ≤ 3 * file.now.triangles }
+    ensures { result ≡ true → take (length words.now) (drop at (file_triangles file.now.bytes.now)) ≡ words.now }
 {
     let mut same = true;
-    let mut i = 0;
-    while i < n {
-        same = still_index(same, layout::triangle_word(bytes, nv, at + i), words[i]);
-        i += 1;
+    for i in 0..words.len() {
+        same &= file.triangle_word(at + i) == words[i];
     }
     same
 }
 
-// The place behind the triangles of the row of cubes at y and z, where the file has them from place `at` on; past its end where it differs.
-fn same_row_triangles(
-    table: &[u16],
-    counts: &[usize],
+// The place behind the triangles of the row of cubes at y and z, where the file has them from place `at` on; they are written to the front
+// of a slice.
+fn behind_row(
+    table: &Table,
     slots: &[u32],
-    rows: &[u64],
-    vis: &[u64],
-    sizes: Sizes,
+    rows: &Rows,
     y: usize,
     z: usize,
-    bytes: &[u8],
-    nv: usize,
-    end: usize,
+    file: &SheetFile,
     row: &mut [u32],
     at: usize,
-) -> usize
-    requires sized { Sized sizes × Tabled (steps_by sizes) 256 table.now counts.now × (needed_slots sizes ≤ length slots.now) }
-    requires fact { let n = sizes.ny * sizes.nz in
-        (n ≤ length rows.now) × (n ≤ length vis.now) × (y + 1 < sizes.ny) × (z + 1 < sizes.nz) }
-    requires ranged { Ranged bytes.now × (nv ≡ file_v bytes.now) × (end ≡ 3 * file_t bytes.now) }
-    requires at_le_end { (at ≤ end) × (2304 ≤ length row.old) }
-    ensures { let S = source table.now counts.now slots.now in
-        let new = row_tiles_at S sizes rows.now vis.now y z in
-        (result ≤ end → Follows (file_triangles bytes.now) at new result) }
+) -> Option<usize>
+    requires sized { (table.now.sizes ≡ rows.now.sizes) × (needed_slots rows.now.sizes ≤ length slots.now) }
+    requires fact { (y + 1 < rows.now.sizes.ny) × (z + 1 < rows.now.sizes.nz) }
+    requires at_le_end { (at ≤ 3 * file.now.triangles) × (2304 ≤ length row.old) }
+    ensures { let S = source table.now.steps table.now.counts slots.now in
+        let new = row_tiles_at S rows.now.sizes rows.now.sides.now rows.now.cubes.now y z in
+        IfSome result (λ next. (next ≤ 3 * file.now.triangles) × Follows (file_triangles file.now.bytes.now) at new next) }
 {
-    let n = tiles::put_row_at(table, counts, slots, rows, vis, sizes, y, z, row, 0);
-    if end < at + n {
-        return end + 1;
+    let n = tiles::put_row_at(table, slots, rows, y, z, row, 0);
+    if 3 * file.triangles < at + n {
+        return None;
     }
-    let same = same_triangle_words(bytes, nv, at, row, n);
-    if !same {
-        return end + 1;
+    if same_words(file, at, &row[..n]) {
+        Some(at + n)
+    } else {
+        None
     }
-    at + n
 }
 
 // The same for the triangles of the cubes of layer z.
-fn same_layer_triangles(
-    table: &[u16],
-    counts: &[usize],
+fn behind_layer(
+    table: &Table,
     slots: &[u32],
-    rows: &[u64],
-    vis: &[u64],
-    sizes: Sizes,
+    rows: &Rows,
     z: usize,
-    bytes: &[u8],
-    nv: usize,
-    end: usize,
+    file: &SheetFile,
     row: &mut [u32],
     at: usize,
-) -> usize
-    requires sized { Sized sizes × Tabled (steps_by sizes) 256 table.now counts.now × (needed_slots sizes ≤ length slots.now) }
-    requires fact { let n = sizes.ny * sizes.nz in (n ≤ length rows.now) × (n ≤ length vis.now) × (z + 1 < sizes.nz) }
-    requires ranged { Ranged bytes.now × (nv ≡ file_v bytes.now) × (end ≡ 3 * file_t bytes.now) }
-    requires at_le_end { (at ≤ end) × (2304 ≤ length row.old) }
-    ensures { let S = source table.now counts.now slots.now in
-        let new = layer_tiles S sizes rows.now vis.now z in
-        (result ≤ end → Follows (file_triangles bytes.now) at new result) }
+) -> Option<usize>
+    requires sized { (table.now.sizes ≡ rows.now.sizes) × (needed_slots rows.now.sizes ≤ length slots.now) }
+    requires fact { z + 1 < rows.now.sizes.nz }
+    requires at_le_end { (at ≤ 3 * file.now.triangles) × (2304 ≤ length row.old) }
+    ensures { let S = source table.now.steps table.now.counts slots.now in
+        let new = layer_tiles S rows.now.sizes rows.now.sides.now rows.now.cubes.now z in
+        IfSome result (λ next. (next ≤ 3 * file.now.triangles) × Follows (file_triangles file.now.bytes.now) at new next) }
 {
-    let n = sizes.ny - 1;
     let mut next = at;
-    let mut y = 0;
-    while y < n {
-        next = same_row_triangles(
-            table, counts, slots, rows, vis, sizes, y, z, bytes, nv, end, row, next,
-        );
-        if end < next {
-            return next;
-        }
-        y += 1;
+    for y in 0..rows.sizes.ny - 1 {
+        next = behind_row(table, slots, rows, y, z, file, row, next)?;
     }
-    next
+    Some(next)
 }
 
-// Whether the file's triangles are those of the cubes that vis has, each row written to the front of a slice.
-fn same_layers_triangles(
-    table: &[u16],
-    counts: &[usize],
+// The same for the triangles of all cubes that the rows have, from the first place on.
+fn behind_layers(
+    table: &Table,
     slots: &[u32],
-    rows: &[u64],
-    vis: &[u64],
-    sizes: Sizes,
-    bytes: &[u8],
+    rows: &Rows,
+    file: &SheetFile,
     row: &mut [u32],
-) -> bool
-    requires sized { Sized sizes × Tabled (steps_by sizes) 256 table.now counts.now × (needed_slots sizes ≤ length slots.now) }
-    requires fact { let n = sizes.ny * sizes.nz in (n ≤ length rows.now) × (n ≤ length vis.now) }
-    requires ranged { Ranged bytes.now × (2304 ≤ length row.old) }
-    ensures { let S = source table.now counts.now slots.now in
-        (result ≡ true → file_triangles bytes.now ≡ tiles_by S sizes rows.now vis.now) }
+) -> Option<usize>
+    requires sized { (table.now.sizes ≡ rows.now.sizes) × (needed_slots rows.now.sizes ≤ length slots.now) }
+    requires long { 2304 ≤ length row.old }
+    ensures { let S = source table.now.steps table.now.counts slots.now in
+        let new = tiles_by S rows.now.sizes rows.now.sides.now rows.now.cubes.now in
+        IfSome result (λ next. Follows (file_triangles file.now.bytes.now) 0 new next) }
 {
-    let nv = layout::vertex_count(bytes);
-    let end = 3 * layout::triangle_count(bytes);
-    let n = sizes.nz - 1;
     let mut next = 0;
-    let mut z = 0;
-    while z < n {
-        next = same_layer_triangles(
-            table, counts, slots, rows, vis, sizes, z, bytes, nv, end, row, next,
-        );
-        if end < next {
-            return false;
-        }
-        z += 1;
+    for z in 0..rows.sizes.nz - 1 {
+        next = behind_layer(table, slots, rows, z, file, row, next)?;
     }
-    next == end
+    Some(next)
 }
 
-// Whether the file's triangles are those of the cubes that vis has, in their own order.
-pub fn same_triangles(
-    table: &[u16],
-    counts: &[usize],
-    slots: &[u32],
-    rows: &[u64],
-    vis: &[u64],
-    sizes: Sizes,
-    bytes: &[u8],
-) -> bool
-    requires sized { Sized sizes × Tabled (steps_by sizes) 256 table.now counts.now × (needed_slots sizes ≤ length slots.now) }
-    requires fact { let n = sizes.ny * sizes.nz in (n ≤ length rows.now) × (n ≤ length vis.now) }
-    requires ranged { Ranged bytes.now }
-    ensures { let S = source table.now counts.now slots.now in
-        (result ≡ true → file_triangles bytes.now ≡ tiles_by S sizes rows.now vis.now) }
+// Whether the file's triangles are those of the cubes that the rows have, in their own order.
+pub fn same_triangles(table: &Table, slots: &[u32], rows: &Rows, file: &SheetFile) -> bool
+    requires { (table.now.sizes ≡ rows.now.sizes) × (needed_slots rows.now.sizes ≤ length slots.now) }
+    ensures { let S = source table.now.steps table.now.counts slots.now in
+        (result ≡ true → file_triangles file.now.bytes.now ≡ tiles_by S rows.now.sizes rows.now.sides.now rows.now.cubes.now) }
 {
     let mut row = [0u32; 2304];
-    same_layers_triangles(table, counts, slots, rows, vis, sizes, bytes, &mut row)
+    let end = 3 * file.triangles;
+    behind_layers(table, slots, rows, file, &mut row) == Some(end)
 }
