@@ -105,6 +105,8 @@ pub fn same_triangles(table: &Table, slots: &[u32], rows: &Rows, file: &SheetFil
         (result ≡ true → file_triangles file.now.bytes.now ≡ tiles_by S rows.now.sizes rows.now.sides.now rows.now.cubes.now) }
 {
     let mut row = [0u32; 2304];
-    let end = 3 * file.triangles;
-    behind_layers(table, slots, rows, file, &mut row) == Some(end)
+    match behind_layers(table, slots, rows, file, &mut row) {
+        Some(next) => next == 3 * file.triangles,
+        None => false,
+    }
 }

@@ -1,99 +1,92 @@
 // A check past test 16: in the sheet's own order, and where that fails in any order.
 #![tactic(auto)]
 
-ghost use Rattle.std.specs.Prelude.{◌≡◌, true, ◌*◌, ◌≤◌, ◌<◌, T, length};
+ghost use Rattle.std.specs.Prelude.{◌≡◌, true, ◌≤◌, ◌<◌, T, length};
 ghost use Rattle.lists.specs.Lists.{Beyond};
 ghost use Rattle.paper.specs.Lattice.{lattice, cubes, crossed};
 ghost use Rattle.paper.specs.Room.{work, lengths, needed, needed_slots, clean};
 ghost use Rattle.paper.specs.Within.{Full, Roomy};
 ghost use Rattle.paper.specs.Tests.{judge};
+ghost use Rattle.paper.specs.Refused.{verdict_told};
 ghost use Rattle.layout.specs.Laid.{LaidOut};
 ghost use Rattle.rows.specs.Rows.{HasBoth};
 ghost use Rattle.spread.specs.Flooded.{Standing};
 ghost use Rattle.check_any_order.specs.Checked.{last_tests, Accepts, Answers};
 
-use paper::{Rule, Sizes, Verdict};
+use layout::SheetFile;
+use paper::{Refusal, Rule};
+use patterns::Table;
+use rows::{Rows, Surface};
 
 // Whether the file has the numbers of the sheet in the sheet's own order.
-fn in_order(
-    rule: Rule,
-    samples: &[i16],
-    sizes: Sizes,
-    rows: &[u64],
-    vis: &[u64],
-    bytes: &[u8],
-    slots: &mut [u32],
-) -> bool
-    requires fact { let L = lattice sizes samples.now in
-        Full L × Standing L rows.now vis.now × LaidOut bytes.now }
-    requires nz_in_bounds { (sizes.ny * sizes.nz ≤ length vis.now) × (needed_slots sizes ≤ length slots.old) }
-    ensures { let L = lattice sizes samples.now in
-        (result ≡ true → Accepts rule L rows.now vis.now bytes.now)
-        × Beyond (needed_slots sizes) slots.old slots.new }
+fn in_order(rule: Rule, surface: &Surface, file: &SheetFile, slots: &mut [u32]) -> bool
+    requires standing { let w = surface.now.rows in
+        Standing (lattice w.sizes surface.now.samples.now) w.sides.now w.cubes.now × LaidOut file.now.bytes.now }
+    requires room { needed_slots surface.now.rows.sizes ≤ length slots.old }
+    ensures { let w = surface.now.rows in
+        (result ≡ true → Accepts rule (lattice w.sizes surface.now.samples.now) w.sides.now w.cubes.now file.now.bytes.now)
+        × Beyond (needed_slots w.sizes) slots.old slots.new }
 {
-    let same = check_ordered_records::same_vertices(rule, samples, sizes, rows, vis, bytes, slots);
-    if !same {
+    if !check_ordered_records::same_vertices(rule, surface, file, slots) {
         return false;
     }
-    let mut table = [0u16; 9216];
-    let mut counts = [0usize; 256];
-    patterns::pattern_table(sizes, &mut table[..], &mut counts[..]);
-    check_ordered_triangles::same_triangles(&table[..], &counts[..], slots, rows, vis, sizes, bytes)
+    let table = Table::new(surface.rows.sizes);
+    check_ordered_triangles::same_triangles(&table, slots, &surface.rows, file)
 }
 
 // Tests 17 to 19.
 fn last_tests(
     rule: Rule,
-    samples: &[i16],
-    sizes: Sizes,
-    rows: &[u64],
-    vis: &[u64],
-    bytes: &[u8],
+    surface: &Surface,
+    file: &SheetFile,
     waiting: &mut [u32],
     slots: &mut [u32],
-) -> Verdict
-    requires fact { let L = lattice sizes samples.now in
-        Full L × Standing L rows.now vis.now × LaidOut bytes.now }
-    requires nz_in_bounds { (sizes.ny * sizes.nz ≤ length vis.now) × (needed sizes ≤ length waiting.old)
-        × (needed_slots sizes ≤ length slots.old) }
-    ensures { let L = lattice sizes samples.now in
-        Answers rule L rows.now vis.now bytes.now result
-        × Beyond (needed sizes) waiting.old waiting.new
-        × Beyond (needed_slots sizes) slots.old slots.new }
+) -> Result<(), Refusal>
+    requires standing { let w = surface.now.rows in
+        Standing (lattice w.sizes surface.now.samples.now) w.sides.now w.cubes.now × LaidOut file.now.bytes.now }
+    requires room { let n = surface.now.rows.sizes in (needed n ≤ length waiting.old) × (needed_slots n ≤ length slots.old) }
+    ensures { let w = surface.now.rows in
+        Answers rule (lattice w.sizes surface.now.samples.now) w.sides.now w.cubes.now file.now.bytes.now (verdict_told result)
+        × Beyond (needed w.sizes) waiting.old waiting.new
+        × Beyond (needed_slots w.sizes) slots.old slots.new }
 {
-    let same = in_order(rule, samples, sizes, rows, vis, bytes, slots);
-    if same {
-        return Verdict {
-            number: 0,
-            place: 0,
-        };
+    if in_order(rule, surface, file, slots) {
+        return Ok(());
     }
-    check_any_order::in_any_order(rule, samples, sizes, rows, vis, bytes, waiting, slots)
+    check_any_order::in_any_order(rule, surface, file, waiting, slots)
 }
 
-// Tests 17 to 19 of the sheet from cube k, a crossed one, on work slices that are then cleared.
-pub fn check_from(
+// Tests 17 to 19 of the sheet from cube k, a crossed one, on work slices that are then cleared; the rows have the cubes that may be visited.
+pub fn check_from<'a>(
     rule: Rule,
-    samples: &[i16],
-    sizes: Sizes,
+    samples: &'a [i16],
+    rows: &Rows<'a>,
     k: usize,
-    rows: &[u64],
-    may: &[u64],
-    bytes: &[u8],
+    file: &SheetFile,
     words: &mut [u16],
     waiting: &mut [u32],
     slots: &mut [u32],
-) -> Verdict
-    requires fact { let L = lattice sizes samples.now in
-        Full L × HasBoth L rows.now may.now × (k < cubes sizes) × T (crossed L k) × LaidOut bytes.now }
-    requires roomy { Roomy sizes (lengths (work words.old waiting.old slots.old)) }
-    ensures { let before = work words.old waiting.old slots.old in
+) -> Result<(), Refusal>
+    requires begun { let L = lattice rows.now.sizes samples.now in
+        Full L × HasBoth L rows.now.sides.now rows.now.cubes.now × (k < cubes rows.now.sizes) × T (crossed L k)
+        × LaidOut file.now.bytes.now }
+    requires roomy { Roomy rows.now.sizes (lengths (work words.old waiting.old slots.old)) }
+    ensures { let n = rows.now.sizes in
+        let before = work words.old waiting.old slots.old in
         let after = work words.new waiting.new slots.new in
-        (result ≡ judge (last_tests rule (lattice sizes samples.now) k bytes.now)) × (after ≡ clean sizes before) }
+        (verdict_told result ≡ judge (last_tests rule (lattice n samples.now) k file.now.bytes.now)) × (after ≡ clean n before) }
 {
     let mut vis = [0u64; 4096];
-    spread::visit(rows, may, sizes, k, &mut vis[..], waiting);
-    let v = last_tests(rule, samples, sizes, rows, &vis[..], bytes, waiting, slots);
-    clear::clear_work(sizes, words, waiting, slots);
-    v
+    spread::visit(rows, k, &mut vis[..], waiting);
+    let visited = Surface {
+        samples,
+        rows: Rows {
+            sizes: rows.sizes,
+            sides: rows.sides,
+            cubes: &vis[..],
+        },
+    };
+    let answer = last_tests(rule, &visited, file, waiting, slots);
+    clear::clear_work(rows.sizes, words, waiting, slots);
+    answer
 }

@@ -1,24 +1,14 @@
 // The checker: a sheet file against its samples and a start, under a rule of rounding.
 #![tactic(auto)]
 
-ghost use Rattle.std.specs.Prelude.{◌≡◌};
 ghost use Rattle.paper.specs.Lattice.{lattice};
 ghost use Rattle.paper.specs.Room.{work};
-ghost use Rattle.paper.specs.Check.{same_sizes, Checks};
+ghost use Rattle.paper.specs.Refused.{verdict_told};
+ghost use Rattle.paper.specs.Check.{Checks};
 
-use paper::{Rule, Sizes, Start, Verdict};
-
-fn same_sizes(a: Sizes, b: Sizes) -> bool
-    ensures { result ≡ same_sizes a b }
-{
-    if a.nx != b.nx {
-        return false;
-    }
-    if a.ny != b.ny {
-        return false;
-    }
-    a.nz == b.nz
-}
+use layout::SheetFile;
+use paper::{Refusal, Rule, Sizes, Start};
+use rows::Rows;
 
 // A sheet file, made under a rule, against its samples and a start.
 pub fn check(
@@ -30,50 +20,32 @@ pub fn check(
     words: &mut [u16],
     waiting: &mut [u32],
     slots: &mut [u32],
-) -> Verdict
+) -> Result<(), Refusal>
     ensures { let before = work words.old waiting.old slots.old in
         let after = work words.new waiting.new slots.new in
-        Checks rule (lattice sizes samples.now) start bytes.now before result after }
+        Checks rule (lattice sizes samples.now) start bytes.now before (verdict_told result) after }
 {
-    let mut rows = [0u64; 4096];
+    let mut sides = [0u64; 4096];
     let mut may = [0u64; 4096];
-    let ready = ready::begin(
+    let cube = ready::begin(
         samples,
         sizes,
         start,
         words.len(),
         waiting.len(),
         slots.len(),
-        &mut rows[..],
-        &mut may[..],
-    );
-    if ready.number != 0 {
-        return Verdict {
-            number: ready.number,
-            place: 0,
-        };
+        &mut sides,
+        &mut may,
+    )?;
+    layout::tested(bytes)?;
+    if layout::sizes_of(bytes) != sizes {
+        return Err(Refusal::OtherSizes);
     }
-    let file = layout::tested(bytes);
-    if file.number != 0 {
-        return file;
-    }
-    let same = same_sizes(layout::sizes_of(bytes), sizes);
-    if !same {
-        return Verdict {
-            number: 16,
-            place: 0,
-        };
-    }
-    check_past::check_from(
-        rule,
-        samples,
+    let rows = Rows {
         sizes,
-        ready.cube,
-        &rows[..],
-        &may[..],
-        bytes,
-        words,
-        waiting,
-        slots,
-    )
+        sides: &sides,
+        cubes: &may,
+    };
+    let file = SheetFile::new(bytes);
+    check_past::check_from(rule, samples, &rows, cube, &file, words, waiting, slots)
 }
