@@ -34,6 +34,8 @@ pub trait Number: Copy {
     ghost wide: { (x : Self) → length (bytes x) ≡ SIZE };
 }
 
+// An impl for each type, written out: none may be written by a macro of the repository's own.
+
 impl Number for u16 {
     ghost SIZE = { 2 };
 

@@ -23,6 +23,9 @@ pub struct Facet {
     pub c: Corner,
 }
 
+// The greatest coordinate.
+const MOST: u32 = 4128768;
+
 // A sheet's number / 65,536, exactly.
 fn float_of(w: i32) -> f32
     requires { in_bounds w ≡ true }
@@ -47,7 +50,7 @@ pub fn bits_stand(b: u32) -> bool
         return false;
     }
     let n = candidate(f32::from_bits(b));
-    n <= 4128768 && float_of(n as i32).to_bits() == b
+    n <= MOST && float_of(n as i32).to_bits() == b
 }
 
 // The coordinate of a float that has one, as a sheet's number.
@@ -63,7 +66,7 @@ pub fn word_of(x: f32) -> i32
 pub fn in_bounds(w: i32) -> bool
     ensures { result ≡ in_bounds w }
 {
-    (0..=4128768).contains(&w)
+    (0..=MOST as i32).contains(&w)
 }
 
 impl Corner {

@@ -12,7 +12,8 @@ ghost use Rattle.sheetfile.specs.Taken.{count_bytes, size_bytes, Writable};
 use codec::Number;
 use paper::{Refusal, Sizes};
 
-// 15: "a triangle index is not below V"
+// 15: "a triangle index is not below V". Of a slice's numbers, as layout's is of a file's: with a closure for the numbers, one function for
+// both would be no plainer.
 #[tactic(auto, using(layout::proofs::Trailer::bad_is))]
 fn is_bad(nv: usize, triangles: &[u32], i: usize) -> bool
     requires { 3 * i + 3 ≤ length triangles.now }

@@ -13,6 +13,8 @@ use paper::{Refusal, Sizes};
 
 // ── tests ──
 
+// V and T go along as two numbers, as the documents have them: a struct of the two would be no plainer.
+
 // "V is at most 2,000,000 and T at most 4,000,000."
 #[tactic(auto, unfolding(paper::specs::File::limits))]
 pub fn within_limits(nv: usize, nt: usize) -> bool
@@ -153,7 +155,8 @@ impl SheetFile<'_> {
         self.triangle_word(i) < n
     }
 
-    // The same of number i of each of the first eight parts of the triangles' numbers, `part` numbers to a part.
+    // The same of number i of each of the first eight parts of the triangles' numbers, `part` numbers to a part. Written out, so that
+    // no read waits for another.
     fn eight_below(&self, n: u32, part: usize, i: usize) -> bool
         requires { (8 * part ≤ 3 * self.now.triangles) × (i < part) }
         ensures { result ≡ true → (k : ℕ) → k < 8 → get_or (file_triangles self.now.bytes.now) (k * part + i) 0 < n }
