@@ -9,7 +9,6 @@ ghost use Rattle.paper.specs.Refused.{verdict_told, wrote_told};
 ghost use Rattle.paper.specs.File.{content_of, file_bytes, bad_triangle, first_bad, limits, write_verdict, Writes};
 ghost use Rattle.sheetfile.specs.Taken.{count_bytes, size_bytes, Writable};
 
-use codec::Number;
 use paper::{Refusal, Sizes};
 
 // 15: "a triangle index is not below V". Of a slice's numbers, as layout's is of a file's: with a closure for the numbers, one function for
