@@ -72,12 +72,14 @@ fn mark_cubes(rows: &Rows, at: Place, size: usize, found: &mut [u64])
     ensures { let z = rows.now.sizes in
         Marked z (crossed_where z rows.now.sides.now rows.now.cubes.now (in_block at size)) found.old found.new }
 {
-    let sizes = rows.sizes;
+    // A copy, whose fields need not be read again after each store.
+    let own = *rows;
+    let sizes = own.sizes;
     let n = size.min(sizes.nx - 1 - at.x);
     let y_end = (at.y + size).min(sizes.ny - 1);
     let z_end = (at.z + size).min(sizes.nz - 1);
     for z in at.z..z_end {
-        mark_layer(rows, Place { z, ..at }, n, y_end, found);
+        mark_layer(&own, Place { z, ..at }, n, y_end, found);
     }
 }
 

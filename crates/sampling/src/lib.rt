@@ -20,12 +20,15 @@ pub struct Twin {
     pub fills: u64,
 }
 
-// 1 for air, 256 for the fill, 0 for solid else.
+// 1 for air, 256 for the fill, 0 for solid else. Two `if`s: a sum of `u16::from` of both tests takes half as many steps again.
 #[tactic(auto, using(rows::proofs::Making::air_no_fill))]
 fn code(v: i16) -> u16
     ensures { (result ≡ weight (air v) 1 + 256 * weight (is_fill v) 1) × (result ≤ 257) }
 {
-    u16::from(sides::is_air(v)) + 256 * u16::from(sides::is_fill(v))
+    if sides::is_air(v) {
+        return 1;
+    }
+    if sides::is_fill(v) { 256 } else { 0 }
 }
 
 // The code of sample i.
