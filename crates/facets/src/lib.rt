@@ -35,6 +35,7 @@ fn float_of(w: i32) -> f32
 }
 
 // The only coordinate whose float x can be: between 128 and 256 floats lie 1/65,536 apart, so the sum's last digits are it.
+#[tactic(auto, using(crate::proofs::Images::more_number, crate::proofs::Images::candidate_is))]
 fn candidate(x: f32) -> u32
     requires { T (not (is_nan x)) }
     ensures { Candidate x result }
@@ -54,6 +55,7 @@ pub fn bits_stand(b: u32) -> bool
 }
 
 // The coordinate of a float that has one, as a sheet's number.
+#[tactic(auto, using(crate::proofs::Images::image_number))]
 pub fn word_of(x: f32) -> i32
     requires { is_image x ≡ true }
     ensures { result ≡ word_of x }
