@@ -49,6 +49,8 @@ pub fn file_length(nv: usize, nt: usize) -> usize
 
 // ── a file's trailer ──
 
+// That it has 24 bytes is a bound as any index has one, and found at each call: a struct that holds it would be no plainer.
+
 // The number at a place of the trailer.
 #[tactic(auto, unfolding(paper::specs::File::trailer))]
 fn trailer_number<N: Number>(bytes: &[u8], at: usize) -> N
