@@ -1,5 +1,4 @@
 -- After y rows the file has their vertices. Assumes nothing.
-use Prim.Native.Nat.{◌-◌}
 use Rattle.paper.specs.Lattice.{lattice}
 use Rattle.paper.specs.File.{file_vertices}
 use Rattle.dots.specs.Dots.{edges_of}
@@ -7,8 +6,7 @@ use Rattle.check_ordered_records.proofs.Dots.{Going}
 use Rattle.check_ordered_records.proofs.same_layer_vertices.Given as goal
 
 abbrev pub invariant-loop-y : goal.invariant-loop-y
-invariant-loop-y l = let y = l.y in
-    Going l.rule (lattice l.sizes l.samples) (λ y. edges_of l.sizes l.rows l.vis y l.z) (file_vertices l.bytes) l.nv l.at l.n y l.next l.initial.slots l.slots
-
-abbrev pub decreases-loop-y : goal.decreases-loop-y
-decreases-loop-y l = l.n - l.y
+invariant-loop-y l =
+    let r = l.surface.rows in
+    Going l.rule (lattice r.sizes l.surface.samples.now) (λ y. edges_of r.sizes r.sides.now r.cubes.now y l.z) (file_vertices l.file.bytes.now) l.file.vertices l.at
+    r.sizes.ny l.y l.next l.initial.slots l.slots

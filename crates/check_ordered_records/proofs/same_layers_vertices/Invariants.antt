@@ -1,5 +1,4 @@
 -- After z layers the file has their vertices. Assumes nothing.
-use Prim.Native.Nat.{◌-◌}
 use Rattle.paper.specs.Lattice.{lattice}
 use Rattle.paper.specs.File.{file_vertices}
 use Rattle.dots.specs.Dots.{layer_edges}
@@ -8,7 +7,6 @@ use Rattle.check_ordered_records.proofs.same_layers_vertices.Given as goal
 
 abbrev pub invariant-loop-z : goal.invariant-loop-z
 invariant-loop-z l =
-    Going l.rule (lattice l.sizes l.samples) (layer_edges l.sizes l.rows l.vis) (file_vertices l.bytes) l.nv 0 l.n l.z l.next l.initial.slots l.slots
-
-abbrev pub decreases-loop-z : goal.decreases-loop-z
-decreases-loop-z l = l.n - l.z
+    let r = l.surface.rows in
+    Going l.rule (lattice r.sizes l.surface.samples.now) (layer_edges r.sizes r.sides.now r.cubes.now) (file_vertices l.file.bytes.now) l.file.vertices 0
+    r.sizes.nz l.z l.next l.initial.slots l.slots
