@@ -82,7 +82,8 @@ module _ (bs : List ℕ) (vs : List ℤ) (ts : List ℕ) where
   unfolding listed_after
   by_number f h = go (eqb (listing_number bs) 0)
     where
-      go : (b : Bool) → f (cond b (lent_after (listed_lattice bs) Lowest (listing_room vs ts)) (listing_room vs ts)) ≡ f (listing_room vs ts)
+      go : (b : Bool)
+          → f (cond b (lent_after (listed_lattice bs) Lowest (listing_room vs ts)) (listing_room vs ts)) ≡ f (listing_room vs ts)
       go true = h
       go false = refl
 

@@ -1,5 +1,5 @@
 -- What passing the listing's tests gives. Assumes nothing.
-use mathlib.Core.Path.{◌≡◌}
+use mathlib.Core.Path.{◌≡◌, sym, ap}
 use mathlib.Core.Bool.{true, ◌&&◌}
 use mathlib.Core.List.{List}
 use Prim.Native.Nat.{ℕ, ◌+◌, ◌*◌, ◌≤◌}
@@ -10,9 +10,11 @@ use lib.Dec.{leb}
 use lib.ListN.{length}
 use Rattle.paper.specs.declared.Sizes.{Sizes}
 use Rattle.paper.specs.Lattice.{samples}
+use Rattle.paper.specs.declared.Verdict.{Verdict}
+use Rattle.paper.specs.Tests.{verdict, judge}
 use Rattle.paper.specs.Within.{Sized}
 use Rattle.paper.proofs.Judged.{Numbered, judge_all, both, sized}
-use Rattle.lister.specs.Listing.{listed_sizes, listable, listing_tests, listing_number}
+use Rattle.lister.specs.Listing.{listed_sizes, listable, listing_tests}
 
 -- bytes that pass: the sizes are sizes, the samples few, and the bytes as many as they take
 pub record Readable (bs : List ℕ) : Type 0 where
@@ -32,10 +34,10 @@ numbered : (bs : List ℕ) → Numbered (listing_tests bs)
 unfolding listing_tests
 numbered bs = (omega arith, (omega arith, (omega arith, (omega arith, tt))))
 
-pub readable : (bs : List ℕ) → listing_number bs ≡ 0 → Readable bs
-unfolding listing_tests listing_number
+pub readable : (bs : List ℕ) → verdict 0 0 ≡ judge (listing_tests bs) → Readable bs
+unfolding listing_tests
 readable bs e =
-    let p = judge_all (listing_tests bs) (numbered bs) e in
+    let p = judge_all (listing_tests bs) (numbered bs) (ap (λ (v : Verdict). v.number) (sym e)) in
     record {
       sized = sized (listed_sizes bs) p.1.0;
       few = few_samples (listed_sizes bs) p.1.1.0;

@@ -10,16 +10,14 @@ use std::io;
 
 // The listings of the bytes. Where a write fails, the listings before it are written, and the answer is the system's error.
 fn each(rt: &impl Print, input: &[u8]) -> io::Result<()> {
-    let mut at: usize = 0;
-    while 2 <= input.len() - at {
-        let from = at + 2;
-        let n = codec::get_u16(input, at) as usize;
-        if input.len() - from < n {
-            return Ok(());
-        }
-        let end = from + n;
-        printer::listing(rt, &input[from..end])?;
-        at = end;
+    let mut rest = input;
+    while let Some((count, after)) = rest.split_first_chunk() {
+        let n = usize::from(u16::from_le_bytes(*count));
+        let Some((listing, others)) = after.split_at_checked(n) else {
+            break;
+        };
+        printer::listing(rt, listing)?;
+        rest = others;
     }
     Ok(())
 }

@@ -4,113 +4,55 @@
 // an error leaves what was written before it, and nothing else.
 #![tactic(auto)]
 
-ghost use Rattle.std.specs.Prelude.{◌≡◌, ◌+◌, ◌*◌, ◌≤◌, nat_abs, length, IfOk};
+ghost use Rattle.std.specs.Prelude.{◌*◌, ◌≤◌, length, IfOk};
 
+use paper::{BuildError, Refusal};
 use std::io;
 use std::io::Read;
 
-pub fn text(rt: &impl Print, s: &[u8]) -> io::Result<()> {
-    rt.write_all(s)
-}
-
-pub fn decimal(rt: &impl Print, n: u64) -> io::Result<()> {
-    print!(rt; "{n}")
-}
-
-pub fn number(rt: &impl Print, n: u64) -> io::Result<()> {
-    text(rt, b" ")?;
-    decimal(rt, n)
-}
-
-fn is_negative(v: i32) -> bool {
-    v < 0
-}
-
-fn magnitude(v: i32) -> u64
-    ensures { result ≡ nat_abs v }
-{
-    if v < 0 {
-        (0 - (v as i64)) as u64
-    } else {
-        v as u64
-    }
-}
-
-pub fn signed(rt: &impl Print, v: i32) -> io::Result<()> {
-    text(rt, b" ")?;
-    if is_negative(v) {
-        text(rt, b"-")?;
-    }
-    decimal(rt, magnitude(v))
-}
-
-fn natural(rt: &impl Print, v: u32) -> io::Result<()> {
-    number(rt, v as u64)
-}
-
-fn vertex(rt: &impl Print, v: &[i32], at: usize) -> io::Result<()>
-    requires { at + 4 ≤ length v.now }
-{
-    text(rt, b"v")?;
-    signed(rt, v[at])?;
-    signed(rt, v[at + 1])?;
-    signed(rt, v[at + 2])?;
-    signed(rt, v[at + 3])?;
-    text(rt, b"\n")
-}
-
+// A line for each vertex: its edge number and its place.
 pub fn vertices(rt: &impl Print, v: &[i32], n: usize) -> io::Result<()>
     requires { 4 * n ≤ length v.now }
 {
-    for i in 0..n {
-        vertex(rt, v, 4 * i)?;
+    let (records, _) = v.as_chunks::<4>();
+    for [edge, x, y, z] in &records[..n] {
+        println!(rt; "v {edge} {x} {y} {z}")?;
     }
     Ok(())
 }
 
-fn triangle(rt: &impl Print, t: &[u32], at: usize) -> io::Result<()>
-    requires { at + 3 ≤ length t.now }
-{
-    text(rt, b"t")?;
-    natural(rt, t[at])?;
-    natural(rt, t[at + 1])?;
-    natural(rt, t[at + 2])?;
-    text(rt, b"\n")
-}
-
+// A line for each triangle: its three vertices.
 pub fn triangles(rt: &impl Print, t: &[u32], n: usize) -> io::Result<()>
     requires { 3 * n ≤ length t.now }
 {
-    for i in 0..n {
-        triangle(rt, t, 3 * i)?;
+    let (triples, _) = t.as_chunks::<3>();
+    for [a, b, c] in &triples[..n] {
+        println!(rt; "t {a} {b} {c}")?;
     }
     Ok(())
 }
 
-fn refused(rt: &impl Print, n: usize) -> io::Result<()> {
-    text(rt, b"refused")?;
-    number(rt, n as u64)?;
-    text(rt, b"\n")
-}
-
-fn counts(rt: &impl Print, v: usize, t: usize, c: usize) -> io::Result<()> {
-    decimal(rt, v as u64)?;
-    number(rt, t as u64)?;
-    number(rt, c as u64)?;
-    text(rt, b"\n")
+// Why a build is refused.
+fn refusal_of(e: BuildError) -> Refusal {
+    match e {
+        BuildError::Refused(refusal) => refusal,
+        BuildError::VertexRoom(_) => Refusal::VertexRoom,
+        BuildError::TriangleRoom(_) => Refusal::TriangleRoom,
+    }
 }
 
 // The listing of bytes, printed. "Its own room is .. 1,000 vertices and 2,000 triangles."
 pub fn listing(rt: &impl Print, input: &[u8]) -> io::Result<()> {
     let mut vs = [0i32; 4000];
     let mut ts = [0u32; 6000];
-    let r = lister::list(input, &mut vs, &mut ts);
-    if r.number != 0 {
-        return refused(rt, r.number);
+    match lister::list(input, &mut vs, &mut ts) {
+        Ok(counts) => {
+            println!(rt; "{} {} {}", counts.vertices, counts.triangles, counts.cubes)?;
+            vertices(rt, &vs, counts.vertices)?;
+            triangles(rt, &ts, counts.triangles)
+        }
+        Err(e) => println!(rt; "{}", refusal_of(e)),
     }
-    counts(rt, r.vertices, r.triangles, r.cubes)?;
-    vertices(rt, &vs, r.vertices)?;
-    triangles(rt, &ts, r.triangles)
 }
 
 // Standard input, up to its end or to as many bytes as there is room for: how many bytes it put at the front of the room. Where a read
@@ -120,6 +62,7 @@ pub fn read_input(rt: &impl Input, room: &mut [u8]) -> io::Result<usize>
 {
     let mut input = rt.reader();
     let mut done = 0;
+    // A while: each read takes as many bytes as it finds.
     while done < room.len() {
         let n = input.read(&mut room[done..])?;
         if n == 0 {
