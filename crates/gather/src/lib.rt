@@ -14,7 +14,8 @@ use paper::Place;
 use rows::Rows;
 
 // The cube at p begins a piece if m has it among the crossed cubes of its row and it is in no piece so far: then its piece is marked and
-// its number listed. How many are listed is returned.
+// its number listed. How many are listed is returned. What is lent stays parameters: a method of a struct that holds these slices would
+// also have to promise that they are the same slices after it.
 fn try_cube(
     rows: &Rows,
     m: u64,

@@ -62,7 +62,8 @@ fn choose(rows: &Rows, start: Start) -> Result<usize, Refusal>
     }
 }
 
-// Tests 1 to 3; words, waiting and slots are the lengths of the work slices.
+// Tests 1 to 3; words, waiting and slots are the lengths of the work slices. They stay three: a struct would be made in three places and
+// taken apart here.
 #[tactic(auto, unfolding(paper::specs::Build::shape_tests))]
 pub fn shape(
     samples: &[i16],

@@ -32,7 +32,8 @@ pub fn filled(from: u64, gate: u64) -> u64
     f
 }
 
-// The places f of row r become due, and the row waits, if it does not yet.
+// The places f of row r become due, and the row waits, if it does not yet. The words of due places, the list and its height stay three
+// parameters: a method of a struct that holds both lent slices would also have to promise that they are the same slices after it.
 #[tactic(auto, unfolding(crate::specs::Flow::wait))]
 pub fn wait_row(due: &mut [u64], waiting: &mut [u32], h: usize, r: usize, f: u64) -> usize
     requires { (r < length due.old) × (r < 4294967296) × (get_or due.old r 0 ≡ 0 → h < length waiting.old) }
