@@ -42,6 +42,17 @@ module _ (z : Sizes) (rows may : List ℕ) (q x : ℕ) where
     abbrev pub Flooding : List ℕ → List ℕ → List ℕ → Flow → ℕ → Type 0
     Flooding = Turn P Reaches q x vis₀
 
+  -- what a turn leaves: with the row at i off the list, what was due there spread to `full` by the four words around it
+  pub record Turned (vis₀ due₀ w₀ vis due w : List ℕ) (h i seen : ℕ) (four : Quad) (full : ℕ) : Type 0 where
+    pub roomy : Roomy (words z) (rows_of z) (is_row z) (flow (set due (get_or w i 0) 0) w i)
+    pub few : let r = get_or w i 0 in seen + ones (less full (get_or vis r 0)) ≤ 262144
+    pub next : (t : Flow) → let r = get_or w i 0 in
+        let new = less full (get_or vis r 0) in
+        let grown = set vis r (bit_or (get_or vis r 0) new) in
+        t ≡ sends grown (door_by z may four r) (beside_by z four r) new 4 (flow (set due r 0) w i)
+        → (5 * (64 * words z - lit (words z) grown) + t.height < 5 * (64 * words z - lit (words z) vis) + h)
+        × ((k : ℕ) → k ≡ ones new → Flooding vis₀ due₀ w₀ grown t (seen + k))
+
   module _ (sized : Sized z) (row : RowIn z q) (hx : x < 64) where
     small : words z < 2 ^ 32
     small = omega (arith, words_le z sized)
@@ -100,11 +111,11 @@ module _ (z : Sizes) (rows may : List ℕ) (q x : ℕ) where
         abbrev popped : Flow
         popped = flow (set due at 0) w i
 
-        pub at_roomy : Roomy (words z) (rows_of z) (is_row z) popped
+        at_roomy : Roomy (words z) (rows_of z) (is_row z) popped
         at_roomy =
             turn_roomy P (Reaches vis₀) G q x vis₀ due₀ w₀ vis due w h i seen hx e u full l F'
 
-        pub seen_le : seen + ones new ≤ 262144
+        seen_le : seen + ones new ≤ 262144
         seen_le =
             omega (
               arith,
@@ -117,14 +128,17 @@ module _ (z : Sizes) (rows may : List ℕ) (q x : ℕ) where
           s' : t ≡ sends grown (door_at z rows may at) (beside_at z rows at) new 4 popped
           s' = s ∙ ap (λ (f : Quad). sends grown (door_by z may f at) (beside_by z f at) new 4 popped) is
 
-          pub less_left : 5 * (64 * words z - lit (words z) grown) + t.height < 5 * (64 * words z - lit (words z) vis) + h
+          less_left : 5 * (64 * words z - lit (words z) grown) + t.height < 5 * (64 * words z - lit (words z) vis) + h
           less_left =
               turn_less P (Reaches vis₀) G q x vis₀ due₀ w₀ vis due w h i seen hx e u full l F' t s'
 
-          pub flooding_more : (k : ℕ) → k ≡ ones new → Flooding vis₀ due₀ w₀ grown t (seen + k)
+          flooding_more : (k : ℕ) → k ≡ ones new → Flooding vis₀ due₀ w₀ grown t (seen + k)
           flooding_more k c =
               rw c
               (turn P (Reaches vis₀) G q x vis₀ due₀ w₀ vis due w h i seen hx e u full l F' t s')
+
+        pub turn_law : Turned vis₀ due₀ w₀ vis due w h i seen four full
+        turn_law = record { roomy = at_roomy; few = seen_le; next = λ t s. (less_left t s, flooding_more t s) }
 
     -- the loop is left
     module _ (vis₀ : List ℕ) (C : Closed P vis₀) (due₀ w₀ w₁ vis : List ℕ) (s : Flow) (seen : ℕ) (e : s.height ≡ 0)
