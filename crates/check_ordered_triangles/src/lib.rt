@@ -3,13 +3,11 @@
 
 ghost use Rattle.std.specs.Prelude.{◌≡◌, true, ◌+◌, ◌*◌, ◌≤◌, ◌<◌, IfSome, length, take, drop};
 ghost use Rattle.paper.specs.File.{file_triangles};
-ghost use Rattle.paper.specs.Room.{needed_slots};
 ghost use Rattle.tiles.specs.Tiles.{source, row_tiles_at, layer_tiles, tiles_by};
 ghost use Rattle.check_ordered.specs.Ordered.{Follows};
 
 use layout::SheetFile;
-use patterns::Table;
-use rows::Rows;
+use tiles::Tiling;
 
 // Whether the numbers of the triangles from number `at` on begin with these words. It looks at all, so that many are compared in a turn.
 fn same_words(file: &SheetFile, at: usize, words: &[u32]) -> bool
@@ -26,23 +24,20 @@ fn same_words(file: &SheetFile, at: usize, words: &[u32]) -> bool
 // The place behind the triangles of the row of cubes at y and z, where the file has them from place `at` on; they are written to the front
 // of a slice.
 fn behind_row(
-    table: &Table,
-    slots: &[u32],
-    rows: &Rows,
+    tiling: &Tiling,
     y: usize,
     z: usize,
     file: &SheetFile,
     row: &mut [u32],
     at: usize,
 ) -> Option<usize>
-    requires sized { (table.now.sizes ≡ rows.now.sizes) × (needed_slots rows.now.sizes ≤ length slots.now) }
-    requires fact { (y + 1 < rows.now.sizes.ny) × (z + 1 < rows.now.sizes.nz) }
+    requires fact { (y + 1 < tiling.now.rows.sizes.ny) × (z + 1 < tiling.now.rows.sizes.nz) }
     requires at_le_end { (at ≤ 3 * file.now.triangles) × (2304 ≤ length row.old) }
-    ensures { let S = source table.now.steps table.now.counts slots.now in
-        let new = row_tiles_at S rows.now.sizes rows.now.sides.now rows.now.cubes.now y z in
+    ensures { let S = source tiling.now.table.now.steps tiling.now.table.now.counts tiling.now.slots.now in
+        let new = row_tiles_at S tiling.now.rows.sizes tiling.now.rows.sides.now tiling.now.rows.cubes.now y z in
         IfSome result (λ next. (next ≤ 3 * file.now.triangles) × Follows (file_triangles file.now.bytes.now) at new next) }
 {
-    let n = tiles::put_row_at(table, slots, rows, y, z, row, 0);
+    let n = tiling.put_row_at(y, z, row, 0);
     if 3 * file.triangles < at + n {
         return None;
     }
@@ -55,57 +50,46 @@ fn behind_row(
 
 // The same for the triangles of the cubes of layer z.
 fn behind_layer(
-    table: &Table,
-    slots: &[u32],
-    rows: &Rows,
+    tiling: &Tiling,
     z: usize,
     file: &SheetFile,
     row: &mut [u32],
     at: usize,
 ) -> Option<usize>
-    requires sized { (table.now.sizes ≡ rows.now.sizes) × (needed_slots rows.now.sizes ≤ length slots.now) }
-    requires fact { z + 1 < rows.now.sizes.nz }
+    requires fact { z + 1 < tiling.now.rows.sizes.nz }
     requires at_le_end { (at ≤ 3 * file.now.triangles) × (2304 ≤ length row.old) }
-    ensures { let S = source table.now.steps table.now.counts slots.now in
-        let new = layer_tiles S rows.now.sizes rows.now.sides.now rows.now.cubes.now z in
+    ensures { let S = source tiling.now.table.now.steps tiling.now.table.now.counts tiling.now.slots.now in
+        let new = layer_tiles S tiling.now.rows.sizes tiling.now.rows.sides.now tiling.now.rows.cubes.now z in
         IfSome result (λ next. (next ≤ 3 * file.now.triangles) × Follows (file_triangles file.now.bytes.now) at new next) }
 {
     let mut next = at;
-    for y in 0..rows.sizes.ny - 1 {
-        next = behind_row(table, slots, rows, y, z, file, row, next)?;
+    for y in 0..tiling.rows.sizes.ny - 1 {
+        next = behind_row(tiling, y, z, file, row, next)?;
     }
     Some(next)
 }
 
 // The same for the triangles of all cubes that the rows have, from the first place on.
-fn behind_layers(
-    table: &Table,
-    slots: &[u32],
-    rows: &Rows,
-    file: &SheetFile,
-    row: &mut [u32],
-) -> Option<usize>
-    requires sized { (table.now.sizes ≡ rows.now.sizes) × (needed_slots rows.now.sizes ≤ length slots.now) }
-    requires long { 2304 ≤ length row.old }
-    ensures { let S = source table.now.steps table.now.counts slots.now in
-        let new = tiles_by S rows.now.sizes rows.now.sides.now rows.now.cubes.now in
+fn behind_layers(tiling: &Tiling, file: &SheetFile, row: &mut [u32]) -> Option<usize>
+    requires { 2304 ≤ length row.old }
+    ensures { let S = source tiling.now.table.now.steps tiling.now.table.now.counts tiling.now.slots.now in
+        let new = tiles_by S tiling.now.rows.sizes tiling.now.rows.sides.now tiling.now.rows.cubes.now in
         IfSome result (λ next. Follows (file_triangles file.now.bytes.now) 0 new next) }
 {
     let mut next = 0;
-    for z in 0..rows.sizes.nz - 1 {
-        next = behind_layer(table, slots, rows, z, file, row, next)?;
+    for z in 0..tiling.rows.sizes.nz - 1 {
+        next = behind_layer(tiling, z, file, row, next)?;
     }
     Some(next)
 }
 
 // Whether the file's triangles are those of the cubes that the rows have, in their own order.
-pub fn same_triangles(table: &Table, slots: &[u32], rows: &Rows, file: &SheetFile) -> bool
-    requires { (table.now.sizes ≡ rows.now.sizes) × (needed_slots rows.now.sizes ≤ length slots.now) }
-    ensures { let S = source table.now.steps table.now.counts slots.now in
-        (result ≡ true → file_triangles file.now.bytes.now ≡ tiles_by S rows.now.sizes rows.now.sides.now rows.now.cubes.now) }
+pub fn same_triangles(tiling: &Tiling, file: &SheetFile) -> bool
+    ensures { let S = source tiling.now.table.now.steps tiling.now.table.now.counts tiling.now.slots.now in
+        (result ≡ true → file_triangles file.now.bytes.now ≡ tiles_by S tiling.now.rows.sizes tiling.now.rows.sides.now tiling.now.rows.cubes.now) }
 {
     let mut row = [0u32; 2304];
-    match behind_layers(table, slots, rows, file, &mut row) {
+    match behind_layers(tiling, file, &mut row) {
         Some(next) => next == 3 * file.triangles,
         None => false,
     }

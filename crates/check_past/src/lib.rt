@@ -17,6 +17,7 @@ use layout::SheetFile;
 use paper::{Refusal, Rule};
 use patterns::Table;
 use rows::{Rows, Surface};
+use tiles::Tiling;
 
 // Whether the file has the numbers of the sheet in the sheet's own order.
 fn in_order(rule: Rule, surface: &Surface, file: &SheetFile, slots: &mut [u32]) -> bool
@@ -31,7 +32,12 @@ fn in_order(rule: Rule, surface: &Surface, file: &SheetFile, slots: &mut [u32]) 
         return false;
     }
     let table = Table::new(surface.rows.sizes);
-    check_ordered_triangles::same_triangles(&table, slots, &surface.rows, file)
+    let tiling = Tiling {
+        table: &table,
+        slots,
+        rows: surface.rows,
+    };
+    check_ordered_triangles::same_triangles(&tiling, file)
 }
 
 // Tests 17 to 19.

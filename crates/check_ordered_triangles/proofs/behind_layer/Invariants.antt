@@ -7,8 +7,8 @@ use Rattle.check_ordered_triangles.proofs.behind_layer.Given as goal
 
 abbrev pub invariant-loop-y : goal.invariant-loop-y
 invariant-loop-y l =
-    let w = l.rows in
+    let w = l.tiling.rows in
     let f = l.file in
-    let S = source l.table.steps l.table.counts l.slots in
+    let S = source l.tiling.table.now.steps l.tiling.table.now.counts l.tiling.slots.now in
     Found (λ y. row_tiles_at S w.sizes w.sides.now w.cubes.now y l.z) (file_triangles f.bytes.now) l.at (3 * f.triangles) (w.sizes.ny - 1) l.y
     l.next

@@ -7,7 +7,7 @@ use Rattle.check_ordered_triangles.proofs.behind_layers.Given as goal
 
 abbrev pub invariant-loop-z : goal.invariant-loop-z
 invariant-loop-z l =
-    let w = l.rows in
+    let w = l.tiling.rows in
     let f = l.file in
-    let S = source l.table.steps l.table.counts l.slots in
+    let S = source l.tiling.table.now.steps l.tiling.table.now.counts l.tiling.slots.now in
     Found (layer_tiles S w.sizes w.sides.now w.cubes.now) (file_triangles f.bytes.now) 0 (3 * f.triangles) (w.sizes.nz - 1) l.z l.next

@@ -16,17 +16,17 @@ use Rattle.check_ordered_triangles.proofs.behind_row.Goals as goal
 use Rattle.check_ordered_triangles.proofs.behind_row.Goals.{After-put_row_at-n, Start}
 
 abbrev from : goal.Start → Source
-from s = let t = s.args.table.now in source t.steps t.counts s.args.slots.now
+from s = let t = s.args.tiling.now.table.now in source t.steps t.counts s.args.tiling.now.slots.now
 
 -- the row's numbers
 abbrev new : goal.Start → List ℕ
-new s = let w = s.args.rows.now in row_tiles_at (from s) w.sizes w.sides.now w.cubes.now s.args.y s.args.z
+new s = let w = s.args.tiling.now.rows in row_tiles_at (from s) w.sizes w.sides.now w.cubes.now s.args.y s.args.z
 
 few : (s : goal.Start) → length (new s) ≤ 2304
 few s =
-    let t = s.args.table.now in
-    let w = s.args.rows.now in
-    let T = subst (λ (z : Sizes). Tabled (steps_by z) 256 t.steps t.counts) s.requires.sized.0 t.tabled in
+    let t = s.args.tiling.now.table.now in
+    let w = s.args.tiling.now.rows in
+    let T = subst (λ (z : Sizes). Tabled (steps_by z) 256 t.steps t.counts) s.args.tiling.now.same t.tabled in
     row_few w.sizes w.sized (from s) T w.sides.now w.cubes.now s.args.y s.args.z
 
 count : (c : goal.After-put_row_at-n) → c.put_row_at-n.result ≡ length (new (goal.at.After-put_row_at-n c).Start)

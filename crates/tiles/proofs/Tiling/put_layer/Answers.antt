@@ -4,18 +4,18 @@ use Prim.Native.Nat.{ℕ, ◌-◌}
 use native.Mathlib.Omega.{arith}
 use Rattle.tiles.specs.Tiles.{source, row_tiles_at, layer_tiles}
 use Rattle.tiles.proofs.Laws.{laid_fit, laid_more, laid_all}
-use Rattle.tiles.proofs.put_layer.Goals as goal
-use Rattle.tiles.proofs.put_layer.Goals.{Start}
+use Rattle.tiles.proofs.Tiling.put_layer.Goals as goal
+use Rattle.tiles.proofs.Tiling.put_layer.Goals.{Start}
 
 -- the numbers of a row
 abbrev one : goal.Start → ℕ → List ℕ
 one s y =
-    let t = s.args.table.now in
-    let w = s.args.rows.now in
-    row_tiles_at (source t.steps t.counts s.args.slots.now) w.sizes w.sides.now w.cubes.now y s.args.z
+    let t = s.args.self.now.table.now in
+    let w = s.args.self.now.rows in
+    row_tiles_at (source t.steps t.counts s.args.self.now.slots.now) w.sizes w.sides.now w.cubes.now y s.args.z
 
 abbrev end : goal.Start → ℕ
-end s = s.args.rows.now.sizes.ny - 1
+end s = s.args.self.now.rows.sizes.ny - 1
 
 pub put_row_at-next-requires-clause-z_in_bounds : goal.put_row_at-next-requires-clause-z_in_bounds
 unfolding layer_tiles
