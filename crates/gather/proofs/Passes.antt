@@ -49,7 +49,8 @@ module _ (z : Sizes) (rows may : List ℕ) where
   fit_at {h = h} e f = subst (λ (n : ℕ). Fit z rows may n h) e f
 
   -- on from there
-  pub leads_more : {i j k l m : ℕ} {a b c : Held} → Leads z rows may i j a b → j ≡ k → Leads z rows may k l b c → l ≡ m → Leads z rows may i m a c
+  pub leads_more : {i j k l m : ℕ} {a b c : Held} → Leads z rows may i j a b → j ≡ k → Leads z rows may k l b c → l ≡ m
+      → Leads z rows may i m a c
   leads_more {i} {j} {k} {l} {m} {a} {b} {c} h e g f = leads_join i k m a b c (leads_at refl e h) (leads_at refl f g)
 
 -- ── one cube ──

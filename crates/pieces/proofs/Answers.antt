@@ -232,7 +232,8 @@ module _ (L : Lattice) (l : Lent) where
             ∙ (λ i. lent (cond (q i) (over (plain_scan L) l.list) l.list) (work_kept (as_building r) L.size l.work keeps i)));
       }
 
-  pub stopped : (e : Refusal) (r : Result ℕ FindError) → verdict_of e ≡ judge shape → IsErrAnd r (λ x. x ≡ Refused e) → Finds L l (found_told r) l
+  pub stopped : (e : Refusal) (r : Result ℕ FindError) → verdict_of e ≡ judge shape → IsErrAnd r (λ x. x ≡ Refused e)
+      → Finds L l (found_told r) l
   stopped e (Ok n) q h = absurd h
   stopped e (Err x) q h =
       subst (λ (f : Found). Finds L l f l) (sym (ap (λ (y : FindError). found_told (Err y)) h))

@@ -19,7 +19,8 @@ abbrev One : goal.At-loop-z → Type 0
 One c = let a = c.args in OneSide a.rows.now.sizes a.rows.now.sides.now a.at a.size
 
 module _ (c : goal.At-loop-z) where
-  all_alike : ((v u : ℕ) → c.args.at.y ≤ v → v < c.min-y_end.result → c.args.at.z ≤ u → u < c.min-z_end.result → part_in c v u ≡ c.all_or_none-like.result)
+  all_alike : ((v u : ℕ) → c.args.at.y ≤ v → v < c.min-y_end.result → c.args.at.z ≤ u → u < c.min-z_end.result
+      → part_in c v u ≡ c.all_or_none-like.result)
       → One c
   all_alike h =
       let a = c.args in
@@ -38,9 +39,10 @@ module _ (c : goal.At-loop-z) where
 pub returns-then-part_of-like : goal.returns-then-part_of-like
 returns-then-part_of-like c =
     let x = c.args.at.x in
+    let at = (goal.at.returns-then-part_of-like c).At-loop-z in
     let e = c.part_of.ensures ∙ ap (λ (w : ℕ). bit_and (w / 2 ^ x) c.mask-m.result) c.row_of-in-loop-y.ensures in (
       λ e. never (sym e),
-      λ _. one_differs (goal.at.returns-then-part_of-like c).At-loop-z c.loop-y.y c.loop-z.z c.loop-y.auto.y (omega arith) c.loop-z.auto.z (omega arith)
+      λ _. one_differs at c.loop-y.y c.loop-z.z c.loop-y.auto.y (omega arith) c.loop-z.auto.z (omega arith)
           (λ q. c.if-part_of-like.true (e ∙ q)),
     )
 

@@ -9,4 +9,5 @@ invariant-loop-z l =
     let r = l.rows in
     let s = r.sizes in
     let before = held l.initial.vis l.initial.waiting l.initial.list 0 in
-    Leads s r.sides.now r.cubes.now 0 (row_start s 0 l.z) before (held l.vis l.waiting l.list l.count) × Empty (words s) l.due
+    let after = held l.vis l.waiting l.list l.count in
+    Leads s r.sides.now r.cubes.now 0 (row_start s 0 l.z) before after × Empty (words s) l.due

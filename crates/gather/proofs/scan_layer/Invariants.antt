@@ -9,4 +9,5 @@ invariant-loop-y l =
     let r = l.rows in
     let s = r.sizes in
     let before = held l.initial.vis l.initial.waiting l.initial.list l.n in
-    Leads s r.sides.now r.cubes.now (row_start s 0 l.z) (row_start s l.y l.z) before (held l.vis l.waiting l.list l.count) × Empty (words s) l.due
+    let after = held l.vis l.waiting l.list l.count in
+    Leads s r.sides.now r.cubes.now (row_start s 0 l.z) (row_start s l.y l.z) before after × Empty (words s) l.due

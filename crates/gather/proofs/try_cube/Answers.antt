@@ -10,8 +10,9 @@ use Rattle.gather.proofs.try_cube.Goals as goal
 pub returns-then-not-has_bit : goal.returns-then-not-has_bit
 returns-then-not-has_bit c =
     let a = c.args in
-    let r = a.rows.now in (
-      leads_skip r.sizes r.sized r.sides.now r.cubes.now a.p c.requires.cube.0 a.m c.requires.cube.1 (held a.vis.now a.waiting.now a.list.now a.n)
+    let r = a.rows.now in
+    let given = held a.vis.now a.waiting.now a.list.now a.n in (
+      leads_skip r.sizes r.sized r.sides.now r.cubes.now a.p c.requires.cube.0 a.m c.requires.cube.1 given
           c.requires.fit.0 (sym c.has_bit.ensures ∙ c.if-not-has_bit.true),
       c.requires.fit.1,
     )
@@ -27,8 +28,9 @@ overflow_cast-list c = omega (arith, c.cube_no.ensures.1, cubes_few c.args.rows.
 pub returns : goal.returns
 returns c =
     let a = c.args in
-    let r = a.rows.now in (
-      leads_take r.sizes r.sized r.sides.now r.cubes.now a.p c.requires.cube.0 a.m c.requires.cube.1 (held a.vis.now a.waiting.now a.list.now a.n)
+    let r = a.rows.now in
+    let given = held a.vis.now a.waiting.now a.list.now a.n in (
+      leads_take r.sizes r.sized r.sides.now r.cubes.now a.p c.requires.cube.0 a.m c.requires.cube.1 given
           c.requires.fit.0 (sym c.has_bit.ensures ∙ c.if-not-has_bit.false) _ _ _ c.flood.ensures.0 c.cube_no.result c.cube_no.ensures.0,
       c.flood.ensures.1,
     )

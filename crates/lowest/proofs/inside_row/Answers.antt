@@ -15,6 +15,7 @@ pub returns-else-is_inner : goal.returns-else-is_inner
 returns-else-is_inner c =
     let a = c.args in
     elim c.else-is_inner.branch [
-      | else-is_inner-via-then-is_inner+else-is_inner-2 w ↦ no_row_z a.sizes a.y a.z (sym w.is_inner-then-is_inner.ensures ∙ w.if-is_inner-2.false)
+      | else-is_inner-via-then-is_inner+else-is_inner-2 w ↦
+          no_row_z a.sizes a.y a.z (sym w.is_inner-then-is_inner.ensures ∙ w.if-is_inner-2.false)
       | else-is_inner-via-else-is_inner w ↦ no_row_y a.sizes a.y a.z (sym c.is_inner.ensures ∙ w.if-is_inner.false)
     ]

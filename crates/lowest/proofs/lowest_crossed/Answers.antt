@@ -59,7 +59,8 @@ returns-then-has_bit-clause-lowest c s h =
     let off = c.args.off in
     let hx : x < r.sizes.nx - 1 = omega (arith, short (goal.at.returns-then-has_bit-clause-lowest c).At-loop-x) in
     c.cube_no.ensures.0
-    ∙ found_lowest off (lattice r.sizes s) r.sides.now r.cubes.now r.sized h (place x k.y z) (cube_in (goal.at.returns-then-has_bit-clause-lowest c).Then-has_bit)
+    ∙ found_lowest off (lattice r.sizes s) r.sides.now r.cubes.now r.sized h (place x k.y z)
+    (cube_in (goal.at.returns-then-has_bit-clause-lowest c).Then-has_bit)
     (clear_row off r.sizes r.sides.now r.cubes.now m.result k.y z x m.ensures (omega arith) (omega arith) k.invariant.clear
     c.loop-x.invariant.1)
     (sym (wanted_bit off r.sizes r.sides.now r.cubes.now m.result k.y z x m.ensures) ∙ (sym c.has_bit.ensures ∙ c.if-has_bit.true))

@@ -10,7 +10,8 @@ pub loop-z-init : goal.loop-z-init
 loop-z-init c =
     let a = c.args in
     let r = a.rows.now in
-    layers_begin r.sizes r.sides.now r.cubes.now a.at c.min-n.result (c.min-y_end.result - a.at.y) (a.at.z - a.at.z) a.found.now (omega arith)
+    layers_begin r.sizes r.sides.now r.cubes.now a.at c.min-n.result (c.min-y_end.result - a.at.y) (a.at.z - a.at.z) a.found.now
+    (omega arith)
 
 pub loop-z-preserved : goal.loop-z-preserved
 loop-z-preserved c =

@@ -6,4 +6,5 @@ use Rattle.marking.proofs.mark_cubes.Given as goal
 abbrev pub invariant-loop-z : goal.invariant-loop-z
 invariant-loop-z l =
     let r = l.rows in
-    Marked r.sizes (crossed_where r.sizes r.sides.now r.cubes.now (in_box l.at l.n (l.y_end - l.at.y) (l.z - l.at.z))) l.initial.found l.found
+    let box = in_box l.at l.n (l.y_end - l.at.y) (l.z - l.at.z) in
+    Marked r.sizes (crossed_where r.sizes r.sides.now r.cubes.now box) l.initial.found l.found

@@ -28,8 +28,8 @@ returns c =
     let old = a.found.now in
     let high = c.low_bits.ensures in
     let low = c.low_bits-2.ensures in
-    subst
-    (λ (k : ℕ). Marked z (crossed_where z r.sides.now r.cubes.now (in_box b a.n 1 1)) old (marked_in old (b.y + z.ny * b.z) (bit_and m.result k)))
+    let due = crossed_where z r.sides.now r.cubes.now (in_box b a.n 1 1) in
+    subst (λ (k : ℕ). Marked z due old (marked_in old (b.y + z.ny * b.z) (bit_and m.result k)))
     (λ i. sym high i - sym low i)
     (part_marked z r.sides.now r.cubes.now b a.n n.0 n.1 n.2 m.result
     (λ x. row_bit z r.sides.now r.cubes.now m.result b.y b.z x m.ensures) old

@@ -35,7 +35,8 @@ module _ (L : Lattice) (s : Start) (n : Lengths) (rows may : List ℕ) where
       record { answer = ap verdict_of h ∙ t.answer ∙ sym (judge_stop (shape_tests L n) (start_tests L s) k); begins = tt }
 
   -- they are passed
-  past : (r : Result ℕ Refusal) → Full L → Roomy L.size n → HasBoth L rows may → Chosen L s r → cube_told r ≡ judge (sample_tests L s n) → Readied L s n rows may r
+  past : (r : Result ℕ Refusal) → Full L → Roomy L.size n → HasBoth L rows may → Chosen L s r → cube_told r ≡ judge (sample_tests L s n)
+      → Readied L s n rows may r
   past (Err e) f m b w a = record { answer = a; begins = tt }
   past (Ok k) f m b w a = record {
     answer = a;

@@ -29,7 +29,8 @@ start_is L true = refl
 start_is L false = refl
 
 -- by what is found
-chosen : (L : Lattice) (off : Bool) (o : Option ℕ) → IfSome o (λ k. k < cubes L.size) → unwrap_or o (cubes L.size) ≡ lowest L.size (wanted off L)
+chosen : (L : Lattice) (off : Bool) (o : Option ℕ) → IfSome o (λ k. k < cubes L.size)
+    → unwrap_or o (cubes L.size) ≡ lowest L.size (wanted off L)
     → Chosen L (unplaced off) (ok_or o NotCrossed)
 unfolding start_tests
 chosen L off None h e = record {
@@ -45,5 +46,7 @@ chosen L off (Some k) h e = record {
 
 pub returns : goal.returns
 returns c = record {
-  of = λ v h. rw c.ok_or.ensures.value (chosen _ c.args.off c.lowest_crossed.result c.lowest_crossed.ensures.below (c.lowest_crossed.ensures.lowest v h));
+  of = λ v h.
+      let k = c.lowest_crossed in
+      rw c.ok_or.ensures.value (chosen _ c.args.off k.result k.ensures.below (k.ensures.lowest v h));
 }

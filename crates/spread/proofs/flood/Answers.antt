@@ -37,7 +37,8 @@ popped_lt l = row_lt l.args.rows.now.sizes (at l) (popped l)
 turned : (c : goal.After-filled-full) → let a = c.args in
     let r = a.rows.now in
     let l = c.loop-h in
-    Turned r.sizes r.sides.now r.cubes.now a.row a.x a.vis.now c.wait_row-h.new.due c.wait_row-h.new.waiting l.vis l.due l.waiting l.h (l.h - 1)
+    let w = c.wait_row-h.new in
+    Turned r.sizes r.sides.now r.cubes.now a.row a.x a.vis.now w.due w.waiting l.vis l.due l.waiting l.h (l.h - 1)
     l.seen c.quad-q.result c.filled-full.result
 turned c =
     let a = c.args in

@@ -43,7 +43,8 @@ module _ (c : goal.At-loop-k) (w : Out) (e : w ≡ way_at c.args.rows.now.sizes 
 
 pub offset_bounds-rows-w : goal.offset_bounds-rows-w
 offset_bounds-rows-w c =
-    omega (arith, to_lt (goal.at.offset_bounds-rows-w c).At-loop-k _ c.in-Some.ensures, words_le c.args.rows.now.sizes c.args.rows.now.sized)
+    let l = to_lt (goal.at.offset_bounds-rows-w c).At-loop-k _ c.in-Some.ensures in
+    omega (arith, l, words_le c.args.rows.now.sizes c.args.rows.now.sized)
 
 pub bounds-rows-w : goal.bounds-rows-w
 bounds-rows-w c = omega (arith, to_lt (goal.at.bounds-rows-w c).At-loop-k _ c.in-Some.ensures, c.args.rows.now.cubes_long)
@@ -54,7 +55,8 @@ send-h-requires c =
     let at = goal.at.send-h-requires c in
     let k = kept at.At-loop-k in
     let l = to_lt at.At-loop-k _ c.in-Some.ensures in
-    let room = wait_room (words z) (rows_of z) (is_row z) c.in-Some.w.to 0 (after at.At-loop-k) k.roomy l (row_test z _ (to_row at.At-loop-k _ c.in-Some.ensures)) in record {
+    let q = row_test z _ (to_row at.At-loop-k _ c.in-Some.ensures) in
+    let room = wait_room (words z) (rows_of z) (is_row z) c.in-Some.w.to 0 (after at.At-loop-k) k.roomy l q in record {
       to_in_bounds = (omega (arith, l, c.requires.sized.1), omega (arith, l, k.roomy.due_fit), omega (arith, l, k.roomy.small));
       h_in_bounds = λ e. omega (arith, room e, k.roomy.waiting_fit);
     }

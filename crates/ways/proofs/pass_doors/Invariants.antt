@@ -7,4 +7,5 @@ use Rattle.ways.proofs.pass_doors.Given as goal
 abbrev pub invariant-loop-k : goal.invariant-loop-k
 invariant-loop-k l =
     let z = l.rows.sizes in
-    flow l.due l.waiting l.h ≡ sends l.vis (door_by z l.rows.cubes.now l.q l.r) (beside_by z l.q l.r) l.f l.k (flow l.initial.due l.initial.waiting l.height)
+    let before = flow l.initial.due l.initial.waiting l.height in
+    flow l.due l.waiting l.h ≡ sends l.vis (door_by z l.rows.cubes.now l.q l.r) (beside_by z l.q l.r) l.f l.k before
