@@ -8,8 +8,7 @@ ghost use Rattle.paper.specs.Tests.{judge};
 ghost use Rattle.paper.specs.Room.{needed_slots, room_tests};
 ghost use Rattle.paper.specs.Refused.{built_with, built_told};
 ghost use Rattle.spread.specs.Flooded.{Standing};
-ghost use Rattle.tally.specs.Tally.{Counted};
-ghost use Rattle.build_output.specs.Output.{output, sheet_counts, Puts};
+ghost use Rattle.build_output.specs.Output.{output, Fits, Puts};
 
 use paper::{BuildError, Rule, SheetCounts};
 use patterns::Table;
@@ -44,8 +43,10 @@ pub fn put_sheet(
 ) -> Result<SheetCounts, BuildError>
     requires standing { let r = surface.now.rows in
         Standing (lattice r.sizes surface.now.samples.now) r.sides.now r.cubes.now }
-    requires counted { let r = surface.now.rows in
-        Counted r.sizes r.sides.now r.cubes.now (sheet_counts c) }
+    requires fits { let r = surface.now.rows in
+        let n = (judge (room_tests c.vertices c.triangles (length vertices.old / 4) (length triangles.old / 3))).number in
+        let room = Fits (lattice r.sizes surface.now.samples.now) r.sides.now r.cubes.now (length vertices.old) (length triangles.old) in
+        (n ≡ 0 → room) }
     requires slots_in_bounds { needed_slots surface.now.rows.sizes ≤ length slots.old }
     ensures { let r = surface.now.rows in
         let before = output vertices.old triangles.old in

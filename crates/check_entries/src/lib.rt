@@ -154,8 +154,8 @@ impl Lines {
         is_along(rule, first, second, s) && self.same_places(file, i, kind, x, s)
     }
 
-    // The edge of record i, counted from the row's first, where it is at least `low`, the row, by the words ks of its kinds, has it, and the
-    // record is its vertex's by a rule.
+    // The edge of record i, counted from the row's first, where it is at least `low`, the row, by the words ks of its kinds, has it, and
+    // the record is its vertex's by a rule.
     pub fn edge_of(
         &self,
         rule: Rule,

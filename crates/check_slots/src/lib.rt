@@ -10,7 +10,8 @@ use paper::Rule;
 use rows::Surface;
 
 // The slots of the layer of anchors at z are numbered from `at` on; the next number is returned. Each row is written to the buffer, by
-// either rule: nothing reads it.
+// either rule: nothing reads it. A loop of its own: where the vertices of all rows are kept, they stand behind one another, and there is
+// room for all.
 fn number_layer(
     surface: &Surface,
     z: usize,

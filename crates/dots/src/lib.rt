@@ -14,6 +14,8 @@ use lattice::Volume;
 use paper::{Place, Rule};
 use rows::Surface;
 
+// The two lent slices stay parameters: a struct that held them would have to promise with each call that it still holds the same two.
+
 // The vertex on the edge of a kind at the anchor p, where ks has it, gets the number `at` and the place at - first; the next number is
 // returned.
 fn put_kind(

@@ -40,7 +40,7 @@ fn row_triangles(rows: &Rows, y: usize, z: usize, v: u64) -> usize
     kinds::count_row(rows.quad(y + sizes.ny * z), v)
 }
 
-// The vertices and the triangles of the rows at z.
+// The vertices and the triangles of the rows at z: two sums in one loop, since the cubes around a row give both.
 fn layer_counts(rows: &Rows, z: usize) -> Counts
     requires { z < rows.now.sizes.nz }
     ensures { let vertices = vertices_by rows.now.sizes rows.now.sides.now rows.now.cubes.now z in

@@ -2,7 +2,7 @@
 use borrow.Author.Tests.{ne_eqb, eq-eqb}
 use mathlib.Core.Path.{◌≡◌, sym, ap, subst, ◌∙◌}
 use mathlib.Core.List.{List}
-use Prim.Native.Nat.{ℕ}
+use Prim.Native.Nat.{ℕ, ◌/◌}
 use native.Mathlib.Omega.{arith}
 use lib.ListN.{length}
 use Rattle.std.specs.Prelude.{Err}
@@ -16,12 +16,12 @@ use Rattle.paper.specs.declared.SheetCounts.{SheetCounts}
 use Rattle.paper.specs.declared.Sizes.{Sizes}
 use Rattle.paper.specs.Lattice.{Lattice, lattice}
 use Rattle.paper.specs.Refused.{built_with, built_told}
-use Rattle.paper.specs.Room.{output_after, needed_slots}
+use Rattle.paper.specs.Tests.{judge}
+use Rattle.paper.specs.Room.{output_after, needed_slots, room_tests}
 use Rattle.paper.specs.Within.{Full}
 use Rattle.patterns.specs.Table.{steps_by, Tabled}
 use Rattle.paper.proofs.Refusals.{some_number}
-use Rattle.build_output.specs.Output.{Fits}
-use Rattle.build_output.proofs.Output.{crossed, edges_length, vertices_are, past_slots, triangles_are, triangles_length, number, fits}
+use Rattle.build_output.proofs.Output.{crossed, edges_length, vertices_are, past_slots, triangles_are, triangles_length}
 use Rattle.build_output.proofs.put_sheet.Goals as goal
 use Rattle.build_output.proofs.put_sheet.Goals.{After-new-table, In_ok-built, Start}
 
@@ -46,11 +46,7 @@ module _ (s : goal.Start) where
 
   -- the number of the test that fails
   abbrev failed : ℕ
-  failed = number L rows vis s.args.c s.requires.counted (length s.args.vertices.now) (length s.args.triangles.now)
-
-  -- the room of a sheet that none fails
-  room : failed ≡ 0 → Fits L rows vis (length s.args.vertices.now) (length s.args.triangles.now)
-  room = fits L rows vis s.args.c s.requires.counted (length s.args.vertices.now) (length s.args.triangles.now)
+  failed = (judge (room_tests s.args.c.vertices s.args.c.triangles (length s.args.vertices.now / 4) (length s.args.triangles.now / 3))).number
 
 -- the table is this lattice's
 made : (c : goal.After-new-table) → Tabled (steps_by c.args.surface.now.rows.sizes) 256 c.new-table.result.steps c.new-table.result.counts
@@ -81,14 +77,14 @@ pub put_vertices-requires-clause-vertices_in_bounds : goal.put_vertices-requires
 put_vertices-requires-clause-vertices_in_bounds c =
     let s = (goal.at.put_vertices-requires-clause-vertices_in_bounds c).Start in
     let p = c.requires.standing in
-    let fit = room s (passed (goal.at.put_vertices-requires-clause-vertices_in_bounds c).In_ok-built) in
+    let fit = c.requires.fits (passed (goal.at.put_vertices-requires-clause-vertices_in_bounds c).In_ok-built) in
     omega (arith, fit.vertices_fit p.start p.stands, edges_length (L s) (full s) _ _ p.start p.stands)
 
 pub put_triangles-requires-clause-cubes_in_bounds : goal.put_triangles-requires-clause-cubes_in_bounds
 put_triangles-requires-clause-cubes_in_bounds c =
     let s = (goal.at.put_triangles-requires-clause-cubes_in_bounds c).Start in
     let p = c.requires.standing in
-    let fit = room s (passed (goal.at.put_triangles-requires-clause-cubes_in_bounds c).In_ok-built) in
+    let fit = c.requires.fits (passed (goal.at.put_triangles-requires-clause-cubes_in_bounds c).In_ok-built) in
     let long = triangles_length (L s) (full s) _ _ p.start p.stands c.args.slots.now c.requires.slots_in_bounds _ _ (made (goal.at.put_triangles-requires-clause-cubes_in_bounds c).After-new-table) _ c.put_vertices.ensures.slots in
     omega (arith, long, fit.triangles_fit p.start p.stands)
 
@@ -99,7 +95,7 @@ returns c =
     let p = c.requires.standing in
     let d = c.put_vertices.ensures in
     let z = passed (goal.at.returns c).In_ok-built in
-    let fit = room s z in
+    let fit = c.requires.fits z in
     let slots = c.args.slots.now in (
       c.in_ok-built.ensures,
       record {

@@ -3,7 +3,7 @@ use Rattle.paper.specs.Lattice.{Lattice, lattice}
 use Rattle.paper.proofs.Visits.{crossed_visitable}
 use Rattle.spread.proofs.Joining.{fresh}
 use Rattle.build_output.specs.Output.{output}
-use Rattle.build_output.proofs.Output.{builds_from}
+use Rattle.build_output.proofs.Output.{fits, builds_from}
 use Rattle.build_past.proofs.build_from.Goals as goal
 use Rattle.build_past.proofs.build_from.Goals.{Start}
 
@@ -20,6 +20,12 @@ put_sheet-built-requires-clause-standing c =
     let p = c.requires in
     let t = crossed_visitable (L (goal.at.put_sheet-built-requires-clause-standing c).Start) c.args.k p.2 in
     record { start = c.args.k; stands = c.visit-cubes.ensures.stands _ p.0 t }
+
+pub put_sheet-built-requires-clause-fits : goal.put_sheet-built-requires-clause-fits
+put_sheet-built-requires-clause-fits c =
+    let n = c.counts_of-counts.result in
+    fits (L (goal.at.put_sheet-built-requires-clause-fits c).Start) _ _ (record { vertices = n.vertices; triangles = n.triangles; cubes = c.visit-cubes.result })
+    c.counts_of-counts.ensures _ _
 
 pub returns : goal.returns
 returns c =
