@@ -18,17 +18,17 @@ use paper::{Built, Got, Place, Rule, Sizes, Start, Verdict, Wrote};
 use stl::Loaded;
 use tray::Found;
 
-// The start that a number and a place name: 0 none, 1 the lowest crossed cube, any other number the cube at the place.
+// The start that a number and a place name: 0 none, 1 the lowest crossed cube, any other number the cube at the place. A function and no
+// `From`, as the two below: neither type of the conversion is this crate's.
+#[tactic(auto, unfolding(crate::specs::Named::start_if))]
 fn start_if(from: u32, start: Place) -> Start
     ensures { result ≡ start_if from start }
 {
-    if from == 0 {
-        return Start::Unnamed;
+    match from {
+        0 => Start::Unnamed,
+        1 => Start::Lowest,
+        _ => Start::Cube(start),
     }
-    if from == 1 {
-        return Start::Lowest;
-    }
-    Start::Cube(start)
 }
 
 #[unsafe(no_mangle)]
@@ -50,9 +50,9 @@ pub extern "C" fn malxuqeed_build(
         Builds (lattice sizes samples.now) (start_if from start) before result after }
 {
     let at = start_if(from, start);
-    builder::build(
+    Built::from(builder::build(
         samples, sizes, at, vertices, triangles, words, waiting, slots,
-    )
+    ))
 }
 
 #[unsafe(no_mangle)]
@@ -66,24 +66,25 @@ pub extern "C" fn malxuqeed_write(
 ) -> Wrote
     ensures { Writes sizes nv nt vertices.now triangles.now bytes.old result bytes.new }
 {
-    file_writer::write(sizes, nv, nt, vertices, triangles, bytes)
+    Wrote::from(file_writer::write(sizes, nv, nt, vertices, triangles, bytes))
 }
 
 #[unsafe(no_mangle)]
 pub extern "C" fn malxuqeed_read(bytes: &[u8], vertices: &mut [i32], triangles: &mut [u32]) -> Got
     ensures { Reads bytes.now vertices.old triangles.old result vertices.new triangles.new }
 {
-    file_reader::read(bytes, vertices, triangles)
+    Got::from(file_reader::read(bytes, vertices, triangles))
 }
 
 // The rule that a number names: 0 down, any other number nearest.
+#[tactic(auto, unfolding(crate::specs::Named::rule_if))]
 fn rule_if(rule: u32) -> Rule
     ensures { result ≡ rule_if rule }
 {
-    if rule == 0 {
-        return Rule::Down;
+    match rule {
+        0 => Rule::Down,
+        _ => Rule::Nearest,
     }
-    Rule::Nearest
 }
 
 #[unsafe(no_mangle)]
@@ -104,7 +105,7 @@ pub extern "C" fn malxuqeed_check(
 {
     let at = start_if(from, start);
     let by = rule_if(rule);
-    checker::check(by, samples, sizes, at, bytes, words, waiting, slots)
+    Verdict::from(checker::check(by, samples, sizes, at, bytes, words, waiting, slots))
 }
 
 #[unsafe(no_mangle)]
@@ -117,24 +118,26 @@ pub extern "C" fn malxuqeed_stl_write(
 ) -> Wrote
     ensures { StlWrites nv nt vertices.now triangles.now bytes.old result bytes.new }
 {
-    stl_writer::write(nv, nt, vertices, triangles, bytes)
+    Wrote::from(stl_writer::write(nv, nt, vertices, triangles, bytes))
 }
 
 #[unsafe(no_mangle)]
 pub extern "C" fn malxuqeed_stl_read(bytes: &[u8], corners: &mut [i32]) -> Loaded
     ensures { StlReads bytes.now corners.old result corners.new }
 {
-    stl_reader::read(bytes, corners)
+    Loaded::from(stl_reader::read(bytes, corners))
 }
 
 // The level that a flag and two greys give.
+#[tactic(auto, unfolding(crate::specs::Named::level_if))]
 fn level_if(halfway: bool, grey: f32, material: f32) -> Level
     ensures { result ≡ level_if halfway grey material }
 {
     if halfway {
-        return Level::Halfway(grey, material);
+        Level::Halfway(grey, material)
+    } else {
+        Level::Fixed(grey)
     }
-    Level::Fixed(grey)
 }
 
 #[unsafe(no_mangle)]
@@ -149,7 +152,7 @@ pub extern "C" fn malxuqeed_convert(
     ensures { Converts (level_if halfway grey material) scale voxels.now samples.old result samples.new }
 {
     let level = level_if(halfway, grey, material);
-    floats::convert(voxels, level, scale, samples)
+    Verdict::from(floats::convert(voxels, level, scale, samples))
 }
 
 #[unsafe(no_mangle)]
@@ -165,5 +168,5 @@ pub extern "C" fn malxuqeed_pieces(
         let after = list_lent list.new (work words.new waiting.new slots.new) in
         Finds (lattice sizes samples.now) before result after }
 {
-    pieces::find(samples, sizes, list, words, waiting, slots)
+    Found::from(pieces::find(samples, sizes, list, words, waiting, slots))
 }

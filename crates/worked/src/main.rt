@@ -6,57 +6,39 @@
 ghost use Rattle.std.specs.Prelude.{◌≡◌, true, false, ◌≤◌};
 ghost use Rattle.paper.specs.Lattice.{air};
 
-use paper::{Built, Got, Place, Rule, Sizes, Start, Verdict, Wrote};
-use printer::{decimal, number, signed, text};
+use paper::{
+    BuildError, Built, Contents, Got, Place, Refusal, Rule, SheetCounts, Sizes, Start, Verdict,
+    Wrote,
+};
 use std::io;
 
 // ── answers as text ──
 
-fn say(rt: &impl Print, before: &[u8], n: usize) -> io::Result<()> {
-    text(rt, before)?;
-    decimal(rt, n as u64)
+fn say_built(rt: &impl Print, answer: Result<SheetCounts, BuildError>) -> io::Result<()> {
+    let r = Built::from(answer);
+    println!(rt;
+        "build {}, {} vertices, {} triangles, {} cubes",
+        r.number, r.vertices, r.triangles, r.cubes
+    )
 }
 
-fn say_sizes(rt: &impl Print, z: Sizes) -> io::Result<()> {
-    say(rt, b"", z.nx)?;
-    say(rt, b"x", z.ny)?;
-    say(rt, b"x", z.nz)
+fn say_wrote(rt: &impl Print, answer: Result<usize, Refusal>) -> io::Result<()> {
+    let r = Wrote::from(answer);
+    print!(rt; "write {}, {} bytes", r.number, r.bytes)
 }
 
-fn say_place(rt: &impl Print, p: Place) -> io::Result<()> {
-    say(rt, b"(", p.x)?;
-    say(rt, b",", p.y)?;
-    say(rt, b",", p.z)?;
-    text(rt, b")")
+fn say_got(rt: &impl Print, answer: Result<Contents, Refusal>) -> io::Result<()> {
+    let r = Got::from(answer);
+    print!(rt;
+        "read {}, {} vertices, {} triangles, ",
+        r.number, r.vertices, r.triangles
+    )?;
+    println!(rt; "{}x{}x{}", r.sizes.nx, r.sizes.ny, r.sizes.nz)
 }
 
-fn say_built(rt: &impl Print, r: Built) -> io::Result<()> {
-    say(rt, b"build ", r.number)?;
-    say(rt, b", ", r.vertices)?;
-    say(rt, b" vertices, ", r.triangles)?;
-    say(rt, b" triangles, ", r.cubes)?;
-    text(rt, b" cubes\n")
-}
-
-fn say_wrote(rt: &impl Print, r: Wrote) -> io::Result<()> {
-    say(rt, b"write ", r.number)?;
-    say(rt, b", ", r.bytes)?;
-    text(rt, b" bytes")
-}
-
-fn say_got(rt: &impl Print, r: Got) -> io::Result<()> {
-    say(rt, b"read ", r.number)?;
-    say(rt, b", ", r.vertices)?;
-    say(rt, b" vertices, ", r.triangles)?;
-    text(rt, b" triangles, ")?;
-    say_sizes(rt, r.sizes)?;
-    text(rt, b"\n")
-}
-
-fn say_verdict(rt: &impl Print, r: Verdict) -> io::Result<()> {
-    say(rt, b"check ", r.number)?;
-    say(rt, b" at ", r.place)?;
-    text(rt, b"\n")
+fn say_verdict(rt: &impl Print, answer: Result<(), Refusal>) -> io::Result<()> {
+    let r = Verdict::from(answer);
+    println!(rt; "check {} at {}", r.number, r.place)
 }
 
 // ── building and checking in room of its own ──
@@ -72,7 +54,7 @@ fn build(
     start: Start,
     vertices: &mut [i32],
     triangles: &mut [u32],
-) -> Built {
+) -> Result<SheetCounts, BuildError> {
     let mut words = [0u16; 64];
     let mut waiting = [0u32; 64];
     let mut slots = [0u32; 1820];
@@ -101,14 +83,12 @@ fn answer_in(
 {
     let mut vertices = [0i32; 400];
     let mut triangles = [0u32; 300];
-    let v = 4 * nv;
-    let t = 3 * nt;
     let r = build(
         samples,
         sizes,
         start,
-        &mut vertices[..v],
-        &mut triangles[..t],
+        &mut vertices[..4 * nv],
+        &mut triangles[..3 * nt],
     );
     say_built(rt, r)
 }
@@ -120,8 +100,7 @@ fn answer(rt: &impl Print, samples: &[i16], sizes: Sizes, start: Start) -> io::R
 
 // The place of a start, and the answer from there.
 fn answer_from(rt: &impl Print, samples: &[i16], sizes: Sizes, p: Place) -> io::Result<()> {
-    say_place(rt, p)?;
-    text(rt, b": ")?;
+    print!(rt; "({},{},{}): ", p.x, p.y, p.z)?;
     answer(rt, samples, sizes, Start::Cube(p))
 }
 
@@ -131,20 +110,18 @@ fn answer_from(rt: &impl Print, samples: &[i16], sizes: Sizes, p: Place) -> io::
 const LISTED: [i16; 8] = [3, -1, -1, -1, -1, -1, -1, -1];
 
 // The listing's sheet.
-fn build_listed(vertices: &mut [i32], triangles: &mut [u32]) -> Built {
-    let samples = LISTED;
-    build(&samples, sized(2, 2, 2), Start::Lowest, vertices, triangles)
+fn build_listed(vertices: &mut [i32], triangles: &mut [u32]) -> Result<SheetCounts, BuildError> {
+    build(&LISTED, sized(2, 2, 2), Start::Lowest, vertices, triangles)
 }
 
 // A file, made under a rule, against the listing's samples, in work room for just these.
-fn check_listed(rule: Rule, bytes: &[u8]) -> Verdict {
-    let samples = LISTED;
+fn check_listed(rule: Rule, bytes: &[u8]) -> Result<(), Refusal> {
     let mut words = [0u16; 1];
     let mut waiting = [0u32; 1];
     let mut slots = [0u32; 56];
     checker::check(
         rule,
-        &samples,
+        &LISTED,
         sized(2, 2, 2),
         Start::Lowest,
         bytes,
@@ -160,44 +137,34 @@ fn say_sheet(rt: &impl Print, vertices: &[i32; 12], triangles: &[u32; 3]) -> io:
     printer::triangles(rt, triangles, 1)
 }
 
-// The four u32 of its trailer.
-fn say_u32s(rt: &impl Print, bytes: &[u8; 84]) -> io::Result<()> {
-    number(rt, codec::get_u32(bytes, 60) as u64)?;
-    number(rt, codec::get_u32(bytes, 64) as u64)?;
-    number(rt, codec::get_u32(bytes, 68) as u64)?;
-    number(rt, codec::get_u32(bytes, 72) as u64)
-}
-
-// The four u16.
-fn say_u16s(rt: &impl Print, bytes: &[u8; 84]) -> io::Result<()> {
-    number(rt, codec::get_u16(bytes, 76) as u64)?;
-    number(rt, codec::get_u16(bytes, 78) as u64)?;
-    number(rt, codec::get_u16(bytes, 80) as u64)?;
-    number(rt, codec::get_u16(bytes, 82) as u64)
-}
-
-// "its file has 84 bytes, trailer 60, 3, 12, 1, 2, 2, 2, 21331"
+// "its file has 84 bytes, trailer 60, 3, 12, 1, 2, 2, 2, 21331": four u32 and four u16
 fn say_trailer(rt: &impl Print, bytes: &[u8; 84]) -> io::Result<()> {
-    text(rt, b", trailer")?;
-    say_u32s(rt, bytes)?;
-    say_u16s(rt, bytes)?;
-    text(rt, b"\n")
+    print!(rt; ", trailer")?;
+    let (words, _) = bytes[60..76].as_chunks();
+    for word in words {
+        print!(rt; " {}", u32::from_le_bytes(*word))?;
+    }
+    let (halves, _) = bytes[76..].as_chunks();
+    for half in halves {
+        print!(rt; " {}", u16::from_le_bytes(*half))?;
+    }
+    println!(rt)
 }
 
 // What is read from its file.
 fn read_back(rt: &impl Print, bytes: &[u8]) -> io::Result<()> {
     let mut vertices = [0i32; 12];
     let mut triangles = [0u32; 3];
-    text(rt, b"its file: ")?;
+    print!(rt; "its file: ")?;
     say_got(rt, file_reader::read(bytes, &mut vertices, &mut triangles))?;
     say_sheet(rt, &vertices, &triangles)
 }
 
 // Its file under each rule: 65,536 × 1 is divided by 4 with nothing left.
 fn check_both(rt: &impl Print, bytes: &[u8]) -> io::Result<()> {
-    text(rt, b"its file, rounded down: ")?;
+    print!(rt; "its file, rounded down: ")?;
     say_verdict(rt, check_listed(Rule::Down, bytes))?;
-    text(rt, b"its file, rounded to nearest: ")?;
+    print!(rt; "its file, rounded to nearest: ")?;
     say_verdict(rt, check_listed(Rule::Nearest, bytes))
 }
 
@@ -205,7 +172,7 @@ fn check_both(rt: &impl Print, bytes: &[u8]) -> io::Result<()> {
 fn write_and_read(rt: &impl Print, vertices: &[i32], triangles: &[u32]) -> io::Result<()> {
     let mut bytes = [0u8; 84];
     let w = file_writer::write(sized(2, 2, 2), 3, 1, vertices, triangles, &mut bytes);
-    text(rt, b"its file: ")?;
+    print!(rt; "its file: ")?;
     say_wrote(rt, w)?;
     say_trailer(rt, &bytes)?;
     read_back(rt, &bytes)?;
@@ -216,7 +183,7 @@ fn write_and_read(rt: &impl Print, vertices: &[i32], triangles: &[u32]) -> io::R
 fn listing(rt: &impl Print) -> io::Result<()> {
     let mut vertices = [0i32; 12];
     let mut triangles = [0u32; 3];
-    text(rt, b"the listing, 2x2x2, only (0,0,0) air: ")?;
+    print!(rt; "the listing, 2x2x2, only (0,0,0) air: ")?;
     say_built(rt, build_listed(&mut vertices, &mut triangles))?;
     say_sheet(rt, &vertices, &triangles)?;
     write_and_read(rt, &vertices, &triangles)
@@ -227,12 +194,12 @@ fn listing(rt: &impl Print) -> io::Result<()> {
 // "2×2×2, only RTN air"
 fn rtn_air(rt: &impl Print) -> io::Result<()> {
     let samples: [i16; 8] = [-1, -1, -1, 3, -1, -1, -1, -1];
-    text(rt, b"2x2x2, only (1,1,0) air: ")?;
+    print!(rt; "2x2x2, only (1,1,0) air: ")?;
     answer(rt, &samples, sized(2, 2, 2), Start::Lowest)
 }
 
 fn middle_from(rt: &impl Print, samples: &[i16], p: Place) -> io::Result<()> {
-    text(rt, b"3x3x3, only (1,1,1) air, start ")?;
+    print!(rt; "3x3x3, only (1,1,1) air, start ")?;
     answer_from(rt, samples, sized(3, 3, 3), p)
 }
 
@@ -255,9 +222,7 @@ fn middle_starts(rt: &impl Print, samples: &[i16]) -> io::Result<()> {
 fn middle_in_room(rt: &impl Print, samples: &[i16], nv: usize, nt: usize) -> io::Result<()>
     requires { (nv ≤ 100) × (nt ≤ 100) }
 {
-    say(rt, b"3x3x3, only (1,1,1) air, room ", nv)?;
-    say(rt, b" and ", nt)?;
-    text(rt, b": ")?;
+    print!(rt; "3x3x3, only (1,1,1) air, room {nv} and {nt}: ")?;
     answer_in(rt, samples, sized(3, 3, 3), Start::Lowest, nv, nt)
 }
 
@@ -274,43 +239,36 @@ fn ends_from(rt: &impl Print, x: usize) -> io::Result<()> {
     let mut samples = [-1i16; 20];
     samples[0] = 3;
     samples[4] = 3;
-    text(rt, b"5x2x2, only (0,0,0) and (4,0,0) air, start ")?;
+    print!(rt; "5x2x2, only (0,0,0) and (4,0,0) air, start ")?;
     answer_from(rt, &samples, sized(5, 2, 2), Place { x, y: 0, z: 0 })
 }
 
 // "5×2×2, only (0,0,0) and (4,0,0) air"
 fn ends_air(rt: &impl Print) -> io::Result<()> {
-    ends_from(rt, 0)?;
-    ends_from(rt, 3)?;
-    ends_from(rt, 1)?;
-    ends_from(rt, 4)
+    for x in [0, 3, 1, 4] {
+        ends_from(rt, x)?;
+    }
+    Ok(())
 }
 
 // "all samples 0"
 fn all_zero(rt: &impl Print) -> io::Result<()> {
     let samples = [0i16; 8];
-    text(rt, b"2x2x2, all samples 0: ")?;
+    print!(rt; "2x2x2, all samples 0: ")?;
     answer(rt, &samples, sized(2, 2, 2), Start::Lowest)
 }
 
 // ── t ──
 
-fn say_sample(rt: &impl Print, v: i16) -> io::Result<()> {
-    signed(rt, v as i32)
-}
-
 // "t for p, q", by document 01's rule
 fn t_for(rt: &impl Print, p: i16, q: i16) -> io::Result<()>
     requires { (air p ≡ false) × (air q ≡ true) }
 {
-    text(rt, b"t for")?;
-    say_sample(rt, p)?;
-    text(rt, b" and")?;
-    say_sample(rt, q)?;
-    say(rt, b": ", crossing::crossing_of(Rule::Down, p, q) as usize)?;
-    text(rt, b"\n")
+    let t = crossing::crossing_of(Rule::Down, p, q);
+    println!(rt; "t for {p} and {q}: {t}")
 }
 
+#[tactic(auto, unfolding(paper::specs::Lattice::air))]
 fn crossings(rt: &impl Print) -> io::Result<()> {
     t_for(rt, 0, 1)?;
     t_for(rt, -1, 32767)?;
@@ -323,23 +281,12 @@ fn crossings(rt: &impl Print) -> io::Result<()> {
 fn t_both(rt: &impl Print, p: i16, q: i16) -> io::Result<()>
     requires { (air p ≡ false) × (air q ≡ true) }
 {
-    text(rt, b"t for")?;
-    say_sample(rt, p)?;
-    text(rt, b" and")?;
-    say_sample(rt, q)?;
-    say(
-        rt,
-        b": down ",
-        crossing::crossing_of(Rule::Down, p, q) as usize,
-    )?;
-    say(
-        rt,
-        b", nearest ",
-        crossing::crossing_of(Rule::Nearest, p, q) as usize,
-    )?;
-    text(rt, b"\n")
+    let down = crossing::crossing_of(Rule::Down, p, q);
+    let nearest = crossing::crossing_of(Rule::Nearest, p, q);
+    println!(rt; "t for {p} and {q}: down {down}, nearest {nearest}")
 }
 
+#[tactic(auto, unfolding(paper::specs::Lattice::air))]
 fn both_rules(rt: &impl Print) -> io::Result<()> {
     t_both(rt, 0, 1)?;
     t_both(rt, -2, 1)?;
@@ -358,8 +305,10 @@ fn axes(rt: &impl Print, sizes: Sizes, n: usize) -> io::Result<()>
 {
     let mut samples = [-1i16; 260];
     samples[0] = 3;
-    say_sizes(rt, sizes)?;
-    text(rt, b", only (0,0,0) air: ")?;
+    print!(rt;
+        "{}x{}x{}, only (0,0,0) air: ",
+        sizes.nx, sizes.ny, sizes.nz
+    )?;
     answer(rt, &samples[..n], sizes, Start::Lowest)
 }
 
@@ -388,29 +337,27 @@ fn short_file(rt: &impl Print) -> io::Result<()> {
         b"\x00\x00\x00\x03\x00\x00\x00\x0c\x00\x00\x00\x01\x00\x00\x00\x02\x00\x02\x00\x02\x00SS";
     let mut vertices = [0i32; 12];
     let mut triangles = [0u32; 3];
-    text(rt, b"a file of 23 bytes: ")?;
+    print!(rt; "a file of 23 bytes: ")?;
     say_got(rt, file_reader::read(bytes, &mut vertices, &mut triangles))?;
-    text(rt, b"a file of 23 bytes: ")?;
+    print!(rt; "a file of 23 bytes: ")?;
     say_verdict(rt, check_listed(Rule::Nearest, bytes))
 }
 
 // "The listing's file", but with nt of these triangles, in bytes for just that file.
 fn altered(
     rt: &impl Print,
-    with: &[u8],
+    with: &str,
     vertices: &[i32],
     triangles: &[u32],
     nt: usize,
     bytes: &mut [u8],
 ) -> io::Result<()> {
-    text(rt, b"the listing's file with ")?;
-    text(rt, with)?;
-    text(rt, b": ")?;
+    print!(rt; "the listing's file with {with}: ")?;
     say_wrote(
         rt,
         file_writer::write(sized(2, 2, 2), 3, nt, vertices, triangles, bytes),
     )?;
-    text(rt, b", ")?;
+    print!(rt; ", ")?;
     say_verdict(rt, check_listed(Rule::Nearest, bytes))
 }
 
@@ -421,7 +368,7 @@ fn altered_files(rt: &impl Print) -> io::Result<()> {
     let _built = build_listed(&mut vertices, &mut triangles);
     altered(
         rt,
-        b"triangle 2 0 1",
+        "triangle 2 0 1",
         &vertices,
         &[2, 0, 1],
         1,
@@ -429,7 +376,7 @@ fn altered_files(rt: &impl Print) -> io::Result<()> {
     )?;
     altered(
         rt,
-        b"triangle 1 0 2",
+        "triangle 1 0 2",
         &vertices,
         &[1, 0, 2],
         1,
@@ -437,13 +384,13 @@ fn altered_files(rt: &impl Print) -> io::Result<()> {
     )?;
     altered(
         rt,
-        b"triangle 2 0 1 twice",
+        "triangle 2 0 1 twice",
         &vertices,
         &[2, 0, 1, 2, 0, 1],
         2,
         &mut [0u8; 96],
     )?;
-    altered(rt, b"no triangle", &vertices, &[], 0, &mut [0u8; 72])
+    altered(rt, "no triangle", &vertices, &[], 0, &mut [0u8; 72])
 }
 
 fn main(rt: HostRuntime) -> io::Result<()> {
