@@ -9,7 +9,8 @@ ghost use Rattle.check_ordered.specs.Ordered.{Follows};
 use layout::SheetFile;
 use tiles::Tiling;
 
-// Whether the numbers of the triangles from number `at` on begin with these words. It looks at all, so that many are compared in a turn.
+// Whether the numbers of the triangles from number `at` on begin with these words. It looks at all, by index, so that many are compared in
+// a turn.
 fn same_words(file: &SheetFile, at: usize, words: &[u32]) -> bool
     requires { at + length words.now ≤ 3 * file.now.triangles }
     ensures { result ≡ true → take (length words.now) (drop at (file_triangles file.now.bytes.now)) ≡ words.now }
@@ -86,7 +87,8 @@ fn behind_layers(tiling: &Tiling, file: &SheetFile, row: &mut [u32]) -> Option<u
 // Whether the file's triangles are those of the cubes that the rows have, in their own order.
 pub fn same_triangles(tiling: &Tiling, file: &SheetFile) -> bool
     ensures { let S = source tiling.now.table.now.steps tiling.now.table.now.counts tiling.now.slots.now in
-        (result ≡ true → file_triangles file.now.bytes.now ≡ tiles_by S tiling.now.rows.sizes tiling.now.rows.sides.now tiling.now.rows.cubes.now) }
+        let new = tiles_by S tiling.now.rows.sizes tiling.now.rows.sides.now tiling.now.rows.cubes.now in
+        (result ≡ true → file_triangles file.now.bytes.now ≡ new) }
 {
     let mut row = [0u32; 2304];
     match behind_layers(tiling, file, &mut row) {

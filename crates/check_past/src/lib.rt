@@ -62,7 +62,8 @@ fn last_tests(
     check_any_order::in_any_order(rule, surface, file, waiting, slots)
 }
 
-// Tests 17 to 19 of the sheet from cube k, a crossed one, on work slices that are then cleared; the rows have the cubes that may be visited.
+// Tests 17 to 19 of the sheet from cube k, a crossed one, on work slices that are then cleared; the rows have the cubes that may be
+// visited. One lifetime is named: the surface of the visited cubes holds the samples beside the rows.
 pub fn check_from<'a>(
     rule: Rule,
     samples: &'a [i16],

@@ -58,7 +58,8 @@ fn good_edge(
     i: usize,
 ) -> Option<usize>
     requires in_file { i < file.now.vertices }
-    requires all_cross { AllCross (lattice volume.now.sizes volume.now.samples.now) slots.now × (needed_slots volume.now.sizes ≤ length slots.now) }
+    requires all_cross { AllCross (lattice volume.now.sizes volume.now.samples.now) slots.now
+        × (needed_slots volume.now.sizes ≤ length slots.now) }
     ensures is { let L = lattice volume.now.sizes volume.now.samples.now in
         unwrap_or result (needed_slots volume.now.sizes) ≡ good_edge rule L (file_vertices file.now.bytes.now) slots.now i }
     ensures below { IfSome result (λ e. e < needed_slots volume.now.sizes) }
@@ -73,9 +74,11 @@ fn good_edge(
     if v == w { Some(e) } else { None }
 }
 
-// The first record that is not, by a rule, that of a vertex, or whose edge an earlier record has; the slots of the edges before it become 0.
+// The first record that is not, by a rule, that of a vertex, or whose edge an earlier record has; the slots of the edges before it become
+// 0.
 pub fn first_bad(rule: Rule, volume: &Volume, file: &SheetFile, slots: &mut [u32]) -> Option<usize>
-    requires { AllCross (lattice volume.now.sizes volume.now.samples.now) slots.old × (needed_slots volume.now.sizes ≤ length slots.old) }
+    requires { AllCross (lattice volume.now.sizes volume.now.samples.now) slots.old
+        × (needed_slots volume.now.sizes ≤ length slots.old) }
     ensures first { let L = lattice volume.now.sizes volume.now.samples.now in
         let vs = file_vertices file.now.bytes.now in
         let nv = file_v file.now.bytes.now in

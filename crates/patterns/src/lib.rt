@@ -17,6 +17,7 @@ fn put_steps(cut: &Cut, t: usize, r: usize, steps: &mut [u16], at: usize) -> usi
         (steps.new ≡ sets steps.old at new) × (result ≡ at + length new) }
 {
     let n = 3 * tetra::row_count(r);
+    // By index: of what is written through iter_mut a proof knows the length only.
     for i in 0..n {
         steps[at + i] = cut.steps[96 * t + (6 * r + i)] as u16;
     }
@@ -40,6 +41,7 @@ fn put_pattern(cut: &Cut, m: usize, steps: &mut [u16], at: usize) -> usize
 #[derive(Drop)]
 pub struct Table {
     pub sizes: Sizes,
+    // Flat, as the definition Tabled has it: a list of numbers.
     pub steps: [u16; 9216],
     pub counts: [usize; 256],
     pub ghost sized: { Sized sizes },

@@ -124,6 +124,7 @@ fn tet_steps(sizes: Sizes) -> [usize; 36]
     requires { Sized sizes }
     ensures { result ≡ tet_steps sizes }
 {
+    // Flat and by index, as the definition tet_steps has it: entry i is edge i % 6 of tetrahedron i / 6.
     let mut steps = [0usize; 36];
     for i in 0..36 {
         steps[i] = step_of(sizes, LOWS[i / 6][i % 6], KINDS[i / 6][i % 6]);
@@ -148,6 +149,7 @@ pub fn row_steps(sizes: Sizes) -> [usize; 576]
     ensures { result ≡ row_steps sizes }
 {
     let steps = tet_steps(sizes);
+    // The same of the definition row_steps.
     let mut all = [0usize; 576];
     for i in 0..576 {
         let k = i % 96;

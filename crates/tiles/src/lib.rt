@@ -5,7 +5,8 @@ ghost use Rattle.std.specs.Prelude.{◌≡◌, ◌+◌, ◌*◌, ◌≤◌, ◌<
 ghost use Rattle.std.proofs.lemmas.List.Edits.{sets};
 ghost use Rattle.lists.specs.Lists.{over};
 ghost use Rattle.paper.specs.Room.{needed_slots};
-ghost use Rattle.tiles.specs.Tiles.{source, size_of, tile_of, tile_at, row_tiles, row_tiles_at, layer_tiles, tiles_by, Reaching, RowReaching};
+ghost use Rattle.tiles.specs.Tiles.{source, size_of, tile_of, tile_at, row_tiles, row_tiles_at, layer_tiles, tiles_by};
+ghost use Rattle.tiles.specs.Tiles.{Reaching, RowReaching};
 
 use patterns::Table;
 use rows::{Quad, Rows};
@@ -32,6 +33,7 @@ impl Tiling<'_> {
         let table = self.table;
         let slots = self.slots;
         let n = table.counts[m];
+        // By index: of what is written through iter_mut a proof knows the length only.
         for i in 0..n {
             out[at + i] = slots[base + (table.steps[36 * m + i] as usize)];
         }

@@ -55,8 +55,8 @@ seen_left s j after e =
 
 module _ (c : goal.In_default-first_bad) where
   no_triple : let s = (goal.at.In_default-first_bad c).Start in
-      first_bad_triple c.args.surface.now.rows.sizes (w s).words (file_vertices (bs s)) (file_triangles (bs s)) c.args.waiting.now (file_t (bs s))
-      ≡ file_t (bs s)
+      let z = c.args.surface.now.rows.sizes in
+      first_bad_triple z (w s).words (file_vertices (bs s)) (file_triangles (bs s)) c.args.waiting.now (file_t (bs s)) ≡ file_t (bs s)
   no_triple = sym c.in_default-first_bad.ensures.first.0
 
   seen_passed : Beyond (needed c.args.surface.now.rows.sizes) c.args.waiting.now c.first_bad-2.new.seen

@@ -57,8 +57,9 @@ returns-then-same_words c =
     let s = (goal.at.returns-then-same_words c).Start in
     let n = c.put_row_at-n in
     let fs = file_triangles c.args.file.now.bytes.now in
-    let l = length-take-le n.result n.new.out (fits g) in (
+    let l = length-take-le n.result n.new.out (fits g) in
+    let h : length (new s) ≤ length c.args.row.now = omega (arith, few s, c.requires.at_le_end.1) in (
       omega arith,
-      follows_front fs c.args.at n.result (new s) c.args.row.now n.new.out n.ensures.0 (count g) (omega (arith, few s, c.requires.at_le_end.1))
+      follows_front fs c.args.at n.result (new s) c.args.row.now n.new.out n.ensures.0 (count g) h
           ((λ i. take (sym l i) (drop c.args.at fs)) ∙ c.same_words.ensures c.if-same_words.true),
     )

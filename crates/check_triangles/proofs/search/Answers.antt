@@ -29,7 +29,8 @@ module _ (c : goal.After-cube_at-p) where
   inside = omega (arith, c.if-cube_count-cube.false, c.cube_count.ensures)
 
   word : let w = c.args.rows.now in
-      word_by w.sizes w.sides.now w.cubes.now c.cube_at-p.result ≡ get_or (words (goal.at.After-cube_at-p c).Start) c.holder_of-cube.result 0
+      word_by w.sizes w.sides.now w.cubes.now c.cube_at-p.result
+      ≡ get_or (words (goal.at.After-cube_at-p c).Start) c.holder_of-cube.result 0
   unfolding words_by
   word =
       let w = c.args.rows.now in
@@ -58,9 +59,9 @@ module _ (c : goal.After-sample_no-base) where
       let z = c.args.rows.now.sizes in
       let k = c.holder_of-cube in
       let m = c.in_ok-pattern in
+      let h = inside (goal.at.After-sample_no-base c).After-cube_at-p in
       ap (λ (z : Sizes). place_from z (7 * c.sample_no-base.result) m.pattern (t s) 0) c.requires.0
-      ∙ (searched z (words s) k.result (t s) (7 * c.sample_no-base.result) m.pattern (inside (goal.at.After-sample_no-base c).After-cube_at-p)
-      base has m.ensures.1
+      ∙ (searched z (words s) k.result (t s) (7 * c.sample_no-base.result) m.pattern h base has m.ensures.1
       ∙ placed_in z (words s) (t s) k.result k.ensures)
 
 pub returns-then-cube_count-cube : goal.returns-then-cube_count-cube

@@ -33,10 +33,11 @@ module _ (c : goal.After-record_word) where
 
 pub overflow_cast-result : goal.overflow_cast-result
 overflow_cast-result c =
-    let g = (goal.at.overflow_cast-result c).After-record_word in (
+    let g = (goal.at.overflow_cast-result c).After-record_word in
+    let z = c.record_word.result in (
       subst (λ (z : ℤ). T (non_neg z)) (sym (is g)) (named_positive _ _ (named g)),
-      subst (λ (z : ℤ). Fits w64 (nat_abs z)) (sym (to_z-of_z {w = w32} {z = c.record_word.result} (record { sfits = c.record_word.type_inv })))
-          (Fits-nat_abs {w = w32} {z = c.record_word.result} tt (record { sfits = c.record_word.type_inv })),
+      subst (λ (z : ℤ). Fits w64 (nat_abs z)) (sym (to_z-of_z {w = w32} {z = z} (record { sfits = c.record_word.type_inv })))
+          (Fits-nat_abs {w = w32} {z = z} tt (record { sfits = c.record_word.type_inv })),
     )
 
 pub returns : goal.returns

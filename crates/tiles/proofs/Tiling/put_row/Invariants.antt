@@ -5,4 +5,5 @@ use Rattle.tiles.proofs.Tiling.put_row.Given as goal
 
 abbrev pub invariant-loop-x : goal.invariant-loop-x
 invariant-loop-x l =
-    Laid (tile_at (source l.self.table.now.steps l.self.table.now.counts l.self.slots.now) l.q l.v l.base) l.at l.n l.x l.next l.initial.out l.out
+    let t = l.self.table.now in
+    Laid (tile_at (source t.steps t.counts l.self.slots.now) l.q l.v l.base) l.at l.n l.x l.next l.initial.out l.out
