@@ -123,7 +123,7 @@ impl Number for i32 {
     ghost wide = { λ x. Prim.search rules };
 }
 
-// The numbers of v as bytes, from `at` on.
+// The numbers of v as bytes, from `at` on. By index, which also says where a number stands.
 pub fn put_all<T: Number>(out: &mut [u8], at: usize, v: &[T])
     requires { at + T.SIZE * length v.now ≤ length out.old }
     ensures { out.new ≡ sets out.old at (each T.bytes v.now) }
@@ -133,7 +133,7 @@ pub fn put_all<T: Number>(out: &mut [u8], at: usize, v: &[T])
     }
 }
 
-// As many numbers as v holds, from the bytes from `at` on.
+// As many numbers as v holds, from the bytes from `at` on. By index: of what is written through iter_mut a proof knows the length only.
 pub fn get_all<T: Number>(s: &[u8], at: usize, v: &mut [T])
     requires { at + T.SIZE * length v.old ≤ length s.now }
     ensures { v.new ≡ map (λ i. T.of (field T.SIZE s.now (at + T.SIZE * i))) (range 0 (length v.old)) }

@@ -106,7 +106,8 @@ fn record_of(rule: Rule, volume: &Volume, e: usize, s: Place, a: Place) -> Verte
     }
 }
 
-// The ends of an edge of a kind, as corners from the anchor: R adds 1, T 2, F 4.
+// The ends of an edge of a kind, as corners from the anchor: R adds 1, T 2, F 4. A kind is a number here and above, since an edge's number
+// is 7 times its anchor's plus the kind.
 #[tactic(auto, unfolding(paper::specs::Sheet::ends_of, paper::specs::Tables::kinds))]
 fn ends(kind: usize) -> (usize, usize)
     requires { kind < 7 }
@@ -154,11 +155,14 @@ pub fn vertex_on(rule: Rule, volume: &Volume, p: Place, kind: usize) -> Vertex
     }
 }
 
-// A record at place k of a vertex slice.
+// A record at place k of a vertex slice, number by number: `copy_from_slice` would bring them by way of the stack.
 pub fn put_vertex(vertices: &mut [i32], k: usize, v: Vertex)
     requires { 4 * k + 4 ≤ length vertices.old }
     ensures { vertices.new ≡ sets vertices.old (4 * k) (numbers v) }
 {
     let at = 4 * k;
-    vertices[at..at + 4].copy_from_slice(&[v.edge, v.x, v.y, v.z]);
+    vertices[at] = v.edge;
+    vertices[at + 1] = v.x;
+    vertices[at + 2] = v.y;
+    vertices[at + 3] = v.z;
 }

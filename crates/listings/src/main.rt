@@ -8,7 +8,7 @@
 
 use std::io;
 
-// The listings of the bytes. Where a write fails, the listings before it are written, and the answer is the system's error.
+// The listings of the bytes, each as long as its count says, so a `while`. Where a write fails, the listings before it are written, and the answer is the system's error.
 fn each(rt: &impl Print, input: &[u8]) -> io::Result<()> {
     let mut rest = input;
     while let Some((count, after)) = rest.split_first_chunk() {

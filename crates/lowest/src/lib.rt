@@ -31,7 +31,7 @@ fn inside_row(sizes: Sizes, y: usize, z: usize) -> u64
     }
 }
 
-// The crossed cubes at y and z, or only those of them that are off the bounds.
+// The crossed cubes at y and z, or only those of them that are off the bounds: a flag, as the definition has it.
 #[tactic(auto, unfolding(rows::specs::Rows::wanted_row))]
 fn wanted_cubes(rows: &Rows, off: bool, y: usize, z: usize) -> u64
     requires { (y + 1 < rows.now.sizes.ny) × (z + 1 < rows.now.sizes.nz) }

@@ -10,7 +10,7 @@ ghost use Rattle.blocks.specs.Blocks.{half_at, part, in_block, in_box, Block, Ou
 use paper::{Place, Sizes};
 use rows::Rows;
 
-// Where the near half (d = 0) or the far half of an axis begins.
+// Where the near half (d = 0) or the far half of an axis begins: d is a binary digit of the part's number, as in the definition.
 #[tactic(auto, unfolding(blocks::specs::Blocks::half_at))]
 fn half(a: usize, h: usize, d: usize) -> usize
     requires { a + h ≤ 64 }

@@ -85,7 +85,7 @@ pub fn sample_row(samples: &[i16], first: usize, n: usize) -> Twin
     Twin { sides, fills }
 }
 
-// All rows of sides and of the fill, each sample read once.
+// All rows of sides and of the fill, each sample read once. By index: of what is written through iter_mut a proof knows the length only.
 pub fn sample_rows(volume: &Volume, rows: &mut [u64], fills: &mut [u64])
     requires { let z = volume.now.sizes in
         (z.ny * z.nz ≤ length rows.old) × (z.ny * z.nz ≤ length fills.old) }
@@ -111,7 +111,7 @@ fn free_row(q: Quad, n: usize) -> u64
     low - ((o | (o >> 1)) & low)
 }
 
-// In place of all rows of the fill, the cubes of each row that are free of it.
+// In place of all rows of the fill, the cubes of each row that are free of it. By index: a row is made of four of the words themselves.
 pub fn free_rows(sizes: Sizes, words: &mut [u64])
     requires { Sized sizes × (sizes.ny * sizes.nz ≤ length words.old) }
     ensures { words.new ≡ over (free_rows sizes words.old) words.old }

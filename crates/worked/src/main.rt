@@ -268,6 +268,7 @@ fn t_for(rt: &impl Print, p: i16, q: i16) -> io::Result<()>
     println!(rt; "t for {p} and {q}: {t}")
 }
 
+// Calls and no table: that a pair is a solid and an air value is proved at its call.
 #[tactic(auto, unfolding(paper::specs::Lattice::air))]
 fn crossings(rt: &impl Print) -> io::Result<()> {
     t_for(rt, 0, 1)?;
