@@ -33,32 +33,30 @@ pub fn with_room(
     Ok(c)
 }
 
-// The vertices and triangles of the visited cubes, which have these counts, are written, where there is room.
+// The vertices and triangles of the visited cubes are written, where tests 6 and 7 have passed.
 pub fn put_sheet(
-    c: SheetCounts,
+    built: Result<SheetCounts, BuildError>,
     surface: &Surface,
     slots: &mut [u32],
     vertices: &mut [i32],
     triangles: &mut [u32],
-) -> Result<SheetCounts, BuildError>
+)
     requires standing { let r = surface.now.rows in
         Standing (lattice r.sizes surface.now.samples.now) r.sides.now r.cubes.now }
     requires fits { let r = surface.now.rows in
-        let n = (judge (room_tests c.vertices c.triangles (length vertices.old / 4) (length triangles.old / 3))).number in
         let room = Fits (lattice r.sizes surface.now.samples.now) r.sides.now r.cubes.now (length vertices.old) (length triangles.old) in
-        (n ≡ 0 → room) }
+        ((built_told built).number ≡ 0 → room) }
     requires slots_in_bounds { needed_slots surface.now.rows.sizes ≤ length slots.old }
     ensures { let r = surface.now.rows in
         let before = output vertices.old triangles.old in
         let after = output vertices.new triangles.new in
-        let n = (judge (room_tests c.vertices c.triangles (length vertices.old / 4) (length triangles.old / 3))).number in
-        (built_told result ≡ built_with n c)
-        × Puts (lattice r.sizes surface.now.samples.now) r.sides.now r.cubes.now n before after
+        Puts (lattice r.sizes surface.now.samples.now) r.sides.now r.cubes.now (built_told built).number before after
         × Beyond (needed_slots r.sizes) slots.old slots.new }
 {
-    let built = with_room(c, vertices.len(), triangles.len())?;
+    if let Err(_) = built {
+        return;
+    }
     let table = Table::new(surface.rows.sizes);
     build_vertices::put_vertices(Rule::Nearest, surface, slots, vertices);
     tiles::put_triangles(&table, slots, &surface.rows, triangles);
-    Ok(built)
 }

@@ -51,7 +51,8 @@ pub fn build_from(
         samples: surface.samples,
         rows,
     };
-    let built = build_output::put_sheet(c, &seen, slots, vertices, triangles);
+    let built = build_output::with_room(c, vertices.len(), triangles.len());
+    build_output::put_sheet(built, &seen, slots, vertices, triangles);
     clear::clear_work(sizes, words, waiting, slots);
     built
 }

@@ -23,8 +23,8 @@ use Rattle.bits.specs.Words.{bit, less}
 use Rattle.bits.proofs.Bits.{bit_and_law, bit_not, bit_of_0}
 use Rattle.rows.specs.Rows.{row_no, is_one_of, HasBoth, HasCubes}
 use Rattle.rows.proofs.Making.{row_lt}
-use Rattle.ways.specs.Ways.{plan_of}
-use Rattle.spread.specs.Flooded.{cell, room, Flooded}
+use Rattle.ways.specs.Ways.{words, plan_of}
+use Rattle.spread.specs.Flooded.{Empty, cell, room, Flooded}
 use Rattle.spread.proofs.Visiting.{has_more}
 use Rattle.spread.proofs.Joining.{joined}
 use Rattle.tray.specs.Pieces.{begins, scanned}
@@ -52,6 +52,26 @@ module _ (z : Sizes) (rows may : List ℕ) where
   pub leads_more : {i j k l m : ℕ} {a b c : Held} → Leads z rows may i j a b → j ≡ k → Leads z rows may k l b c → l ≡ m
       → Leads z rows may i m a c
   leads_more {i} {j} {k} {l} {m} {a} {b} {c} h e g f = leads_join i k m a b c (leads_at refl e h) (leads_at refl f g)
+
+-- a pass along cubes: what it holds, nothing due, and no slice of another length
+pub record Walk (z : Sizes) (rows may : List ℕ) (j k : ℕ) (before after : Held) (due₀ due : List ℕ) : Type 0 where
+  pub leads : Leads z rows may j k before after
+  pub empty : Empty (words z) due
+  pub same_vis : length after.vis ≡ length before.vis
+  pub same_due : length due ≡ length due₀
+  pub same_waiting : length after.waiting ≡ length before.waiting
+  pub same_list : length after.list ≡ length before.list
+
+pub walk_more : (z : Sizes) (rows may : List ℕ) {i j k l : ℕ} {a b c : Held} {due₀ due₁ due : List ℕ} → Walk z rows may i j a b due₀ due₁
+    → j ≡ k → Walk z rows may k l b c due₁ due → Walk z rows may i l a c due₀ due
+walk_more z rows may {i} {j} {k} {l} {a} {b} {c} w e m = record {
+  leads = leads_join z rows may i k l a b c (leads_at z rows may refl e w.leads) m.leads;
+  empty = m.empty;
+  same_vis = m.same_vis ∙ w.same_vis;
+  same_due = m.same_due ∙ w.same_due;
+  same_waiting = m.same_waiting ∙ w.same_waiting;
+  same_list = m.same_list ∙ w.same_list;
+}
 
 -- ── one cube ──
 

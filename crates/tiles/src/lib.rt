@@ -11,6 +11,80 @@ ghost use Rattle.tiles.specs.Tiles.{Reaching, RowReaching};
 use patterns::Table;
 use rows::{Quad, Rows};
 
+// The triangles of a cube with pattern m, from place `at` on; the next place is returned.
+fn put_cube(
+    table: &[u16],
+    counts: &[usize],
+    slots: &[u32],
+    m: usize,
+    base: usize,
+    out: &mut [u32],
+    at: usize,
+) -> usize
+    requires in_bounds { (9216 ≤ length table.now) × (256 ≤ length counts.now) × (m < 256) × (base ≤ 2000000) }
+    requires fact { let S = source table.now counts.now slots.now in
+        Reaching S (length slots.now) m base × (at + size_of S m ≤ length out.old) }
+    ensures { let S = source table.now counts.now slots.now in
+        (out.new ≡ sets out.old at (tile_of S m base)) × (result ≡ at + length (tile_of S m base)) }
+{
+    let n = counts[m];
+    // By index: of what is written through iter_mut a proof knows the length only.
+    for i in 0..n {
+        out[at + i] = slots[base + (table[36 * m + i] as usize)];
+    }
+    at + n
+}
+
+// The triangles of cube x of a row, where v has it.
+fn put_place(
+    table: &[u16],
+    counts: &[usize],
+    slots: &[u32],
+    q: Quad,
+    v: u64,
+    base: usize,
+    x: usize,
+    out: &mut [u32],
+    at: usize,
+) -> usize
+    requires in_bounds { (9216 ≤ length table.now) × (256 ≤ length counts.now) × (x < 64) × (base ≤ 1900000) }
+    requires fact { let S = source table.now counts.now slots.now in
+        RowReaching S q v base (x + 1) (length slots.now) × (at + length (tile_at S q v base x) ≤ length out.old) }
+    ensures { let S = source table.now counts.now slots.now in
+        (out.new ≡ sets out.old at (tile_at S q v base x)) × (result ≡ at + length (tile_at S q v base x)) }
+{
+    if bits::has_bit(v, x) {
+        return put_cube(table, counts, slots, q.pattern(x), base + 7 * x, out, at);
+    }
+    at
+}
+
+// The triangles of the first n cubes of a row. The slices stay parameters: this promises the same of any table with counts, whatever the
+// sizes.
+pub fn put_row(
+    table: &[u16],
+    counts: &[usize],
+    slots: &[u32],
+    q: Quad,
+    v: u64,
+    base: usize,
+    n: usize,
+    out: &mut [u32],
+    at: usize,
+) -> usize
+    requires in_bounds { (9216 ≤ length table.now) × (256 ≤ length counts.now) × (n < 64) × (base ≤ 1900000) }
+    requires fact { let S = source table.now counts.now slots.now in
+        RowReaching S q v base n (length slots.now) × (at + length (row_tiles S q v base n) ≤ length out.old) }
+    ensures { let S = source table.now counts.now slots.now in
+        (out.new ≡ sets out.old at (row_tiles S q v base n)) × (result ≡ at + length (row_tiles S q v base n)) }
+{
+    let mut next = at;
+    for x in 0..n {
+        next = put_place(table, counts, slots, q, v, base, x, out, next);
+    }
+    next
+}
+
 // What triangles are written from: the table of patterns, the slots of the edges, and the rows of the cubes.
 #[derive(Clone, Copy)]
 pub struct Tiling<'a> {
@@ -22,61 +96,6 @@ pub struct Tiling<'a> {
 }
 
 impl Tiling<'_> {
-    // The triangles of a cube with pattern m, from place `at` on; the next place is returned.
-    fn put_cube(&self, m: usize, base: usize, out: &mut [u32], at: usize) -> usize
-        requires in_bounds { (m < 256) × (base ≤ 2000000) }
-        requires fact { let S = source self.now.table.now.steps self.now.table.now.counts self.now.slots.now in
-            Reaching S (length self.now.slots.now) m base × (at + size_of S m ≤ length out.old) }
-        ensures { let S = source self.now.table.now.steps self.now.table.now.counts self.now.slots.now in
-            (out.new ≡ sets out.old at (tile_of S m base)) × (result ≡ at + length (tile_of S m base)) }
-    {
-        let table = self.table;
-        let slots = self.slots;
-        let n = table.counts[m];
-        // By index: of what is written through iter_mut a proof knows the length only.
-        for i in 0..n {
-            out[at + i] = slots[base + (table.steps[36 * m + i] as usize)];
-        }
-        at + n
-    }
-
-    // The triangles of cube x of a row, where v has it.
-    fn put_place(&self, q: Quad, v: u64, base: usize, x: usize, out: &mut [u32], at: usize) -> usize
-        requires in_bounds { (x < 64) × (base ≤ 1900000) }
-        requires fact { let S = source self.now.table.now.steps self.now.table.now.counts self.now.slots.now in
-            RowReaching S q v base (x + 1) (length self.now.slots.now) × (at + length (tile_at S q v base x) ≤ length out.old) }
-        ensures { let S = source self.now.table.now.steps self.now.table.now.counts self.now.slots.now in
-            (out.new ≡ sets out.old at (tile_at S q v base x)) × (result ≡ at + length (tile_at S q v base x)) }
-    {
-        if bits::has_bit(v, x) {
-            return self.put_cube(q.pattern(x), base + 7 * x, out, at);
-        }
-        at
-    }
-
-    // The triangles of the first n cubes of a row.
-    pub fn put_row(
-        &self,
-        q: Quad,
-        v: u64,
-        base: usize,
-        n: usize,
-        out: &mut [u32],
-        at: usize,
-    ) -> usize
-        requires in_bounds { (n < 64) × (base ≤ 1900000) }
-        requires fact { let S = source self.now.table.now.steps self.now.table.now.counts self.now.slots.now in
-            RowReaching S q v base n (length self.now.slots.now) × (at + length (row_tiles S q v base n) ≤ length out.old) }
-        ensures { let S = source self.now.table.now.steps self.now.table.now.counts self.now.slots.now in
-            (out.new ≡ sets out.old at (row_tiles S q v base n)) × (result ≡ at + length (row_tiles S q v base n)) }
-    {
-        let mut next = at;
-        for x in 0..n {
-            next = self.put_place(q, v, base, x, out, next);
-        }
-        next
-    }
-
     // The triangles of the row of cubes at y and z.
     pub fn put_row_at(&self, y: usize, z: usize, out: &mut [u32], at: usize) -> usize
         requires fact { (y + 1 < self.now.rows.sizes.ny) × (z + 1 < self.now.rows.sizes.nz) }
@@ -93,7 +112,17 @@ impl Tiling<'_> {
             return at;
         }
         let q = self.rows.quad(r);
-        self.put_row(q, v, 7 * (sizes.nx * r), sizes.nx - 1, out, at)
+        put_row(
+            &self.table.steps,
+            &self.table.counts,
+            self.slots,
+            q,
+            v,
+            7 * (sizes.nx * r),
+            sizes.nx - 1,
+            out,
+            at,
+        )
     }
 
     // The triangles of the cubes of layer z.

@@ -8,11 +8,11 @@ use lib.Seq.{sets}
 use Rattle.lists.proofs.Stores.{sets_next}
 use Rattle.tiles.specs.Tiles.{Source, source, edge_in}
 use Rattle.tiles.proofs.Laws.{tile_upto, upto_length, upto_none, upto_more, upto_all, tile_length}
-use Rattle.tiles.proofs.Tiling.put_cube.Goals as goal
-use Rattle.tiles.proofs.Tiling.put_cube.Goals.{Start}
+use Rattle.tiles.proofs.put_cube.Goals as goal
+use Rattle.tiles.proofs.put_cube.Goals.{Start}
 
 abbrev from : goal.Start → Source
-from s = let t = s.args.self.now.table.now in source t.steps t.counts s.args.self.now.slots.now
+from s = source s.args.table.now s.args.counts.now s.args.slots.now
 
 pub loop-i-init : goal.loop-i-init
 loop-i-init c =
@@ -24,7 +24,7 @@ loop-i-preserved c =
     let a = c.args in
     let S = from (goal.at.loop-i-preserved c).Start in
     let i = c.loop-i.i in
-    let v = get_or a.self.now.slots.now (edge_in S a.m a.base i) 0 in
+    let v = get_or a.slots.now (edge_in S a.m a.base i) 0 in
     record {
       upto = omega arith;
       stored =
@@ -38,6 +38,6 @@ pub returns : goal.returns
 returns c =
     let a = c.args in
     let S = from (goal.at.returns c).Start in
-    let q : c.loop-i.i ≡ get_or a.self.now.table.now.counts a.m 0 = omega arith in
+    let q : c.loop-i.i ≡ get_or a.counts.now a.m 0 = omega arith in
     let e = ap (tile_upto S a.m a.base) q ∙ upto_all S a.m a.base in
     (c.loop-i.invariant.stored ∙ ap (sets a.out.now a.at) e, ap (λ (n : ℕ). a.at + n) (sym (tile_length S a.m a.base)))

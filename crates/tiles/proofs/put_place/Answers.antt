@@ -8,11 +8,11 @@ use lib.Seq.{sets}
 use Rattle.lists.proofs.Member.{eq_to_t}
 use Rattle.tiles.specs.Tiles.{Source, source, tile_of, tile_at, Reaching}
 use Rattle.tiles.proofs.Laws.{tile_length, place_on, place_off}
-use Rattle.tiles.proofs.Tiling.put_place.Goals as goal
-use Rattle.tiles.proofs.Tiling.put_place.Goals.{After-pattern, Start}
+use Rattle.tiles.proofs.put_place.Goals as goal
+use Rattle.tiles.proofs.put_place.Goals.{After-pattern, Start}
 
 abbrev from : goal.Start → Source
-from s = let t = s.args.self.now.table.now in source t.steps t.counts s.args.self.now.slots.now
+from s = source s.args.table.now s.args.counts.now s.args.slots.now
 
 -- the cube's own pattern
 same : (c : goal.After-pattern) → let S = from (goal.at.After-pattern c).Start in
@@ -31,7 +31,7 @@ put_cube-requires-clause-fact c =
     let b = a.base + 7 * a.x in
     let on = eq_to_t (sym c.has_bit.ensures ∙ c.if-has_bit.true) in
     let m = c.pattern in (
-      subst (λ (k : ℕ). Reaching S (length a.self.now.slots.now) k b) (sym m.ensures.0) (c.requires.fact.0.cube a.x (omega arith) on),
+      subst (λ (k : ℕ). Reaching S (length a.slots.now) k b) (sym m.ensures.0) (c.requires.fact.0.cube a.x (omega arith) on),
       omega (
         arith,
         c.requires.fact.1,

@@ -4,12 +4,12 @@ use Prim.Native.Nat.{ℕ}
 use native.Mathlib.Omega.{arith}
 use Rattle.tiles.specs.Tiles.{source, tile_at, row_tiles}
 use Rattle.tiles.proofs.Laws.{laid_fit, laid_more, laid_all}
-use Rattle.tiles.proofs.Tiling.put_row.Goals as goal
-use Rattle.tiles.proofs.Tiling.put_row.Goals.{Start}
+use Rattle.tiles.proofs.put_row.Goals as goal
+use Rattle.tiles.proofs.put_row.Goals.{Start}
 
 -- the numbers of a cube
 abbrev one : goal.Start → ℕ → List ℕ
-one s = let t = s.args.self.now.table.now in tile_at (source t.steps t.counts s.args.self.now.slots.now) s.args.q s.args.v s.args.base
+one s = tile_at (source s.args.table.now s.args.counts.now s.args.slots.now) s.args.q s.args.v s.args.base
 
 pub put_place-next-requires-clause-fact : goal.put_place-next-requires-clause-fact
 unfolding row_tiles
