@@ -1,5 +1,5 @@
 -- A vertex record by the ends of its edge as the edge's kind orders them, from tables of the seven kinds. Assumes nothing.
-use Rattle.std.specs.Prelude.{◌≡◌, ℕ, ◌+◌, ◌-◌, ◌*◌, ◌/◌, ◌%◌, ◌<◌, ◌≤◌, Bool, cond, T, List, ℤ, pos, ◌+ℤ◌, ◌-ℤ◌, ◌*ℤ◌, FitsSigned, slice_index, slice_index_or}
+use Rattle.std.specs.Prelude.{◌≡◌, ℕ, ◌+◌, ◌-◌, ◌*◌, ◌/◌, ◌%◌, ◌<◌, ◌≤◌, Bool, cond, T, List, length, ℤ, pos, ◌+ℤ◌, ◌-ℤ◌, ◌*ℤ◌, FitsSigned, slice_index, slice_index_or}
 use Rattle.std.specs.Int.{w32}
 use Rattle.paper.specs.declared.Sizes.{Sizes}
 use Rattle.paper.specs.declared.Rule.{Rule}
@@ -32,6 +32,15 @@ pub record Ends (z : Sizes) (y w : ℕ) (off from : List ℕ) (dirs : List ℤ) 
   pub dir_y : (k : ℕ) → k < 7 → slice_index_or dirs (3 * k + 1) (pos 0) ≡ pos ((ends_of k).b / 2 % 2) -ℤ pos ((ends_of k).a / 2 % 2)
   pub dir_z : (k : ℕ) → k < 7 → slice_index_or dirs (3 * k + 2) (pos 0) ≡ pos ((ends_of k).b / 4) -ℤ pos ((ends_of k).a / 4)
   pub number : (k : ℕ) → k < 7 → slice_index main k ≤ 3
+
+-- and as long as they must be
+pub record Long (os fs : List ℕ) (ds : List ℤ) (ms gs xs : List ℕ) : Type 0 where
+  pub off : 14 ≤ length os
+  pub from : 21 ≤ length fs
+  pub dirs : 21 ≤ length ds
+  pub main : 7 ≤ length ms
+  pub org : 7 ≤ length gs
+  pub mask : 7 ≤ length xs
 
 -- ── one record ──
 

@@ -8,7 +8,7 @@ ghost use Rattle.paper.specs.Sheet.{ends_of, coordinate, vertex_record};
 ghost use Rattle.paper.specs.File.{file_vertices};
 ghost use Rattle.paper.specs.Within.{SampleIn};
 ghost use Rattle.crossing.specs.Vertex.{NearPlaces, Crosses};
-ghost use Rattle.check_entries.specs.Entries.{along, Stepping, Ends, RowCrosses, Entry};
+ghost use Rattle.check_entries.specs.Entries.{along, Stepping, Ends, Long, RowCrosses, Entry};
 
 use codec::Number;
 use lattice::Volume;
@@ -78,28 +78,29 @@ fn edge_in_row(w: i32, row: usize, wide: usize, low: usize) -> Option<usize>
 
 // ── one record ──
 
-// The row of anchors at y and z, whose first is sample number `here`, and how its edges run, by their kinds. The arrays stand side by side:
+// The row of anchors at y and z, whose first is sample number `here`, and how its edges run, by their kinds. The slices stand side by side:
 // each is read by numbers of its own.
 #[derive(Clone, Copy)]
-pub struct Lines {
+pub struct Lines<'a> {
     pub sizes: Sizes,
     pub y: usize,
     pub z: usize,
     pub here: usize,
     // how far the two ends of a kind are from the anchor, by the numbers of samples
-    pub off: [usize; 14],
+    pub off: &'a [usize],
     // 65,536 times the three coordinates of the first end, x from the anchor on, and the directions of the three axes
-    pub from: [usize; 21],
-    pub dirs: [i32; 21],
+    pub from: &'a [usize],
+    pub dirs: &'a [i32],
     // the number of a record that grows along the edge, where it starts but for x, and whether it starts at x
-    pub main: [usize; 7],
-    pub org: [u32; 7],
-    pub mask: [u32; 7],
+    pub main: &'a [usize],
+    pub org: &'a [u32],
+    pub mask: &'a [u32],
     pub ghost placed: { (y < sizes.ny) × (z < sizes.nz) × (here ≡ sizes.nx * (y + sizes.ny * z)) },
-    pub ghost ends: { Ends sizes y z off from dirs main },
+    pub ghost ends: { Ends sizes y z off.now from.now dirs.now main.now },
+    pub ghost long: { Long off.now from.now dirs.now main.now org.now mask.now },
 }
 
-impl Lines {
+impl Lines<'_> {
     // Whether the positions of record i are those that are s units from the first end of the edge of a kind at the anchor x.
     fn same_places(&self, file: &SheetFile, i: usize, kind: usize, x: usize, s: u32) -> bool
         requires few { (i < file.now.vertices) × (kind < 7) × (x < 64) × (s ≤ 65536) }

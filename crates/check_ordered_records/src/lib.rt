@@ -10,7 +10,7 @@ ghost use Rattle.paper.specs.Room.{needed_slots};
 ghost use Rattle.paper.specs.Within.{Sized};
 ghost use Rattle.kinds.specs.Kinds.{seven};
 ghost use Rattle.dots.specs.Dots.{row_edges, edges_of, layer_edges, edges_by, numbered, Crossed};
-ghost use Rattle.check_entries.specs.Entries.{RowCrosses};
+ghost use Rattle.check_entries.specs.Entries.{Ends, RowCrosses};
 ghost use Rattle.check_ordered.specs.Ordered.{Listed, Listing, kept, Entered};
 
 use check_entries::Lines;
@@ -20,10 +20,21 @@ use layout::SheetFile;
 use paper::{Rule, Sizes};
 use rows::Surface;
 
+// What `Lines` is lent, for a row of anchors.
+#[derive(Clone, Copy)]
+struct Tables {
+    off: [usize; 14],
+    from: [usize; 21],
+    dirs: [i32; 21],
+    main: [usize; 7],
+    org: [u32; 7],
+    mask: [u32; 7],
+}
+
 // How the edges of the row of anchors at y and z run.
-fn lines_at(sizes: Sizes, y: usize, z: usize) -> Lines
+fn tables_at(sizes: Sizes, y: usize, z: usize) -> Tables
     requires { Sized sizes × (y < sizes.ny) × (z < sizes.nz) }
-    ensures { (result.sizes ≡ sizes) × (result.y ≡ y) × (result.z ≡ z) }
+    ensures { Ends sizes y z result.off result.from result.dirs result.main }
 {
     let nx = sizes.nx;
     let up = nx * sizes.ny;
@@ -31,11 +42,7 @@ fn lines_at(sizes: Sizes, y: usize, z: usize) -> Lines
     let kz = 65536 * z;
     let cy = ky as u32;
     let cz = kz as u32;
-    Lines {
-        sizes,
-        y,
-        z,
-        here: nx * (y + sizes.ny * z),
+    Tables {
         off: [0, 1, 0, nx, 0, up, nx, up, 1, up, nx, 1, nx + 1, up],
         from: [
             0,
@@ -132,7 +139,19 @@ fn same_row(
         let after = slots.new in
         (result ≡ true → Listed rule L es fs at before (at + n) after) × Beyond (needed_slots s) before after }
 {
-    let lines = lines_at(volume.sizes, y, z);
+    let tables = tables_at(volume.sizes, y, z);
+    let lines = Lines {
+        sizes: volume.sizes,
+        y,
+        z,
+        here: volume.sizes.nx * (y + volume.sizes.ny * z),
+        off: &tables.off,
+        from: &tables.from,
+        dirs: &tables.dirs,
+        main: &tables.main,
+        org: &tables.org,
+        mask: &tables.mask,
+    };
     same_records(rule, volume, &lines, k, file, slots, at, n)
 }
 

@@ -1,5 +1,5 @@
 -- With the lines of the row. Assumes nothing.
-use mathlib.Core.Path.{◌≡◌, refl, sym, ap, subst, ◌∙◌}
+use mathlib.Core.Path.{refl, sym, ap, subst, ◌∙◌}
 use mathlib.Core.List.{List}
 use Prim.Native.Nat.{ℕ, ◌+◌, ◌*◌}
 use native.Mathlib.Omega.{arith}
@@ -15,7 +15,7 @@ use Rattle.dots.specs.Dots.{numbered}
 use Rattle.check_ordered.specs.Ordered.{Follows, kept, Entered}
 use Rattle.check_ordered_records.proofs.RowEdges.{row_kept, row_crosses}
 use Rattle.check_ordered_records.proofs.same_row.Goals as goal
-use Rattle.check_ordered_records.proofs.same_row.Goals.{After-lines_at-lines, Start}
+use Rattle.check_ordered_records.proofs.same_row.Goals.{Start}
 
 abbrev L : goal.Start → Lattice
 L s = lattice s.args.volume.now.sizes s.args.volume.now.samples.now
@@ -23,15 +23,10 @@ L s = lattice s.args.volume.now.sizes s.args.volume.now.samples.now
 abbrev here : goal.Start → ℕ
 here s = let n = s.args.volume.now.sizes in n.nx * (s.args.y + n.ny * s.args.z)
 
--- where the lines are
-placed : (c : goal.After-lines_at-lines) → c.lines_at-lines.result.here ≡ here (goal.at.After-lines_at-lines c).Start
-placed c = let e = c.lines_at-lines.ensures in c.lines_at-lines.result.placed.2 ∙ (λ i. (e.0 i).nx * (e.1 i + (e.0 i).ny * e.2 i))
-
 pub same_records-requires-clause-row_crosses : goal.same_records-requires-clause-row_crosses
 same_records-requires-clause-row_crosses c =
     let s = (goal.at.same_records-requires-clause-row_crosses c).Start in
-    let e = c.lines_at-lines.ensures in
-    rw (e.1, e.2) (row_crosses (L s) c.args.k.now c.args.y c.args.z (here s) c.requires.within.0 refl c.requires.crossed)
+    (row_crosses (L s) c.args.k.now c.args.y c.args.z (here s) c.requires.within.0 refl c.requires.crossed)
 
 pub returns : goal.returns
 returns c =
@@ -45,9 +40,7 @@ returns c =
     let q = row_kept a.k.now (7 * here s) a.volume.now.sizes.nx in
     let v : ℕ → List ℤ = vertex_record a.rule (L s) in (
       (λ e.
-          let E : Entered a.rule (L s) ks fs (7 * here s) wide a.at a.n a.slots.now c.same_records.new.slots =
-          subst (λ (h : ℕ). Entered a.rule (L s) ks fs (7 * h) wide a.at a.n a.slots.now c.same_records.new.slots)
-          (placed (goal.at.returns c).After-lines_at-lines) (r.0 e c.requires.room.2) in
+          let E : Entered a.rule (L s) ks fs (7 * here s) wide a.at a.n a.slots.now c.same_records.new.slots = r.0 e c.requires.room.2 in
           record {
             follows =
                 subst (λ (l : List ℤ). Follows fs (4 * a.at) l (4 * (a.at + a.n))) (sym (ap (each v) q ∙ each_map v (λ e. 7 * here s + e) es)) E.follows;

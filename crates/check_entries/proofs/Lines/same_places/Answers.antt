@@ -44,15 +44,15 @@ module _ (s : goal.Start) where
 
   -- where the edge starts, and its directions as they are read
   abbrev from : ℕ → ℕ
-  from i = get_or s.args.self.now.from i 0
+  from i = get_or s.args.self.now.from.now i 0
 
   abbrev dir : ℕ → ℤ
-  dir i = to_z w32 (of_z w32 (get_or s.args.self.now.dirs i (pos 0)))
+  dir i = to_z w32 (of_z w32 (get_or s.args.self.now.dirs.now i (pos 0)))
 
   abbrev number : ℕ → ℤ
   number j = get_or (file_vertices s.args.file.now.bytes.now) (4 * s.args.i + j) (pos 0)
 
-  abbrev E : Ends s.args.self.now.sizes y z s.args.self.now.off s.args.self.now.from s.args.self.now.dirs s.args.self.now.main
+  abbrev E : Ends s.args.self.now.sizes y z s.args.self.now.off.now s.args.self.now.from.now s.args.self.now.dirs.now s.args.self.now.main.now
   E = s.args.self.now.ends
 
   abbrev AtX : Type 0

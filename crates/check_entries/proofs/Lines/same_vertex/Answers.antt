@@ -45,16 +45,16 @@ module _ (s : goal.Start) where
 
   -- where the two values stand
   abbrev first_at : ℕ
-  first_at = at + get_or s.args.self.now.off (2 * kind) 0
+  first_at = at + get_or s.args.self.now.off.now (2 * kind) 0
 
   abbrev second_at : ℕ
-  second_at = at + get_or s.args.self.now.off (2 * kind + 1) 0
+  second_at = at + get_or s.args.self.now.off.now (2 * kind + 1) 0
 
   few : kind < 7
   few = s.requires.crosses.1.kind
 
-  E : Ends n y z s.args.self.now.off s.args.self.now.from s.args.self.now.dirs s.args.self.now.main
-  E = subst (λ (n : Sizes). Ends n y z s.args.self.now.off s.args.self.now.from s.args.self.now.dirs s.args.self.now.main) s.requires.sizes s.args.self.now.ends
+  E : Ends n y z s.args.self.now.off.now s.args.self.now.from.now s.args.self.now.dirs.now s.args.self.now.main.now
+  E = subst (λ (n : Sizes). Ends n y z s.args.self.now.off.now s.args.self.now.from.now s.args.self.now.dirs.now s.args.self.now.main.now) s.requires.sizes s.args.self.now.ends
 
   anchor_no : at ≡ sample_no n p
   unfolding sample_no
