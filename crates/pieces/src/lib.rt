@@ -27,7 +27,10 @@ fn put_list(pieces: &[u32], list: &mut [u32]) -> Result<usize, FindError>
     if list.len() < n {
         return Err(FindError::ListRoom(n));
     }
-    list[..n].copy_from_slice(pieces);
+    // By number: copy_from_slice would have C's archive ask for memmove besides memcpy and memset.
+    for i in 0..n {
+        list[i] = pieces[i];
+    }
     Ok(n)
 }
 
