@@ -11,8 +11,8 @@ ghost use Rattle.spread.specs.Flooded.{Standing};
 ghost use Rattle.build_output.specs.Output.{output, Fits, Puts};
 
 use paper::{BuildError, Rule, SheetCounts};
-use patterns::Table;
 use rows::Surface;
+use tiles::Tiling;
 
 // Tests 6 and 7, for a sheet's counts and the lengths of the lent output: the counts, where there is room for as many.
 #[tactic(auto, unfolding(paper::specs::Room::room_tests))]
@@ -56,7 +56,15 @@ pub fn put_sheet(
     if let Err(_) = built {
         return;
     }
-    let table = Table::new(surface.rows.sizes);
+    let mut table = [0u16; 9216];
+    let mut counts = [0usize; 256];
+    patterns::pattern_table(surface.rows.sizes, &mut table, &mut counts);
     build_vertices::put_vertices(Rule::Nearest, surface, slots, vertices);
-    tiles::put_triangles(&table, slots, &surface.rows, triangles);
+    let tiling = Tiling {
+        table: &table,
+        counts: &counts,
+        slots,
+        rows: surface.rows,
+    };
+    tiles::put_triangles(&tiling, triangles);
 }

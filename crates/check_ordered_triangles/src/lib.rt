@@ -34,7 +34,7 @@ fn behind_row(
 ) -> Option<usize>
     requires fact { (y + 1 < tiling.now.rows.sizes.ny) × (z + 1 < tiling.now.rows.sizes.nz) }
     requires at_le_end { (at ≤ 3 * file.now.triangles) × (2304 ≤ length row.old) }
-    ensures { let S = source tiling.now.table.now.steps tiling.now.table.now.counts tiling.now.slots.now in
+    ensures { let S = source tiling.now.table.now tiling.now.counts.now tiling.now.slots.now in
         let new = row_tiles_at S tiling.now.rows.sizes tiling.now.rows.sides.now tiling.now.rows.cubes.now y z in
         IfSome result (λ next. (next ≤ 3 * file.now.triangles) × Follows (file_triangles file.now.bytes.now) at new next) }
 {
@@ -59,7 +59,7 @@ fn behind_layer(
 ) -> Option<usize>
     requires fact { z + 1 < tiling.now.rows.sizes.nz }
     requires at_le_end { (at ≤ 3 * file.now.triangles) × (2304 ≤ length row.old) }
-    ensures { let S = source tiling.now.table.now.steps tiling.now.table.now.counts tiling.now.slots.now in
+    ensures { let S = source tiling.now.table.now tiling.now.counts.now tiling.now.slots.now in
         let new = layer_tiles S tiling.now.rows.sizes tiling.now.rows.sides.now tiling.now.rows.cubes.now z in
         IfSome result (λ next. (next ≤ 3 * file.now.triangles) × Follows (file_triangles file.now.bytes.now) at new next) }
 {
@@ -73,7 +73,7 @@ fn behind_layer(
 // The same for the triangles of all cubes that the rows have, from the first place on.
 fn behind_layers(tiling: &Tiling, file: &SheetFile, row: &mut [u32]) -> Option<usize>
     requires { 2304 ≤ length row.old }
-    ensures { let S = source tiling.now.table.now.steps tiling.now.table.now.counts tiling.now.slots.now in
+    ensures { let S = source tiling.now.table.now tiling.now.counts.now tiling.now.slots.now in
         let new = tiles_by S tiling.now.rows.sizes tiling.now.rows.sides.now tiling.now.rows.cubes.now in
         IfSome result (λ next. Follows (file_triangles file.now.bytes.now) 0 new next) }
 {
@@ -86,7 +86,7 @@ fn behind_layers(tiling: &Tiling, file: &SheetFile, row: &mut [u32]) -> Option<u
 
 // Whether the file's triangles are those of the cubes that the rows have, in their own order.
 pub fn same_triangles(tiling: &Tiling, file: &SheetFile) -> bool
-    ensures { let S = source tiling.now.table.now.steps tiling.now.table.now.counts tiling.now.slots.now in
+    ensures { let S = source tiling.now.table.now tiling.now.counts.now tiling.now.slots.now in
         let new = tiles_by S tiling.now.rows.sizes tiling.now.rows.sides.now tiling.now.rows.cubes.now in
         (result ≡ true → file_triangles file.now.bytes.now ≡ new) }
 {

@@ -15,7 +15,6 @@ ghost use Rattle.check_any_order.specs.Checked.{last_tests, Accepts, Answers};
 
 use layout::SheetFile;
 use paper::{Refusal, Rule};
-use patterns::Table;
 use rows::{Rows, Surface};
 use tiles::Tiling;
 
@@ -31,9 +30,12 @@ fn in_order(rule: Rule, surface: &Surface, file: &SheetFile, slots: &mut [u32]) 
     if !check_ordered_records::same_vertices(rule, surface, file, slots) {
         return false;
     }
-    let table = Table::new(surface.rows.sizes);
+    let mut table = [0u16; 9216];
+    let mut counts = [0usize; 256];
+    patterns::pattern_table(surface.rows.sizes, &mut table, &mut counts);
     let tiling = Tiling {
         table: &table,
+        counts: &counts,
         slots,
         rows: surface.rows,
     };

@@ -37,33 +37,15 @@ fn put_pattern(cut: &Cut, m: usize, steps: &mut [u16], at: usize) -> usize
     next
 }
 
-// The steps of each pattern, 36 places to a pattern, and how many it has.
-#[derive(Drop)]
-pub struct Table {
-    pub sizes: Sizes,
+// The steps of each pattern, 36 places to a pattern, and how many it has, at the front of what is lent: a caller has the one copy.
+pub fn pattern_table(sizes: Sizes, steps: &mut [u16], counts: &mut [usize])
+    requires { Sized sizes × (9216 ≤ length steps.old) × (256 ≤ length counts.old) }
+    ensures { Tabled (steps_by sizes) 256 steps.new counts.new }
+{
+    let cut = Cut::new(sizes);
     // Flat, as the definition Tabled has it: a list of numbers.
-    pub steps: [u16; 9216],
-    pub counts: [usize; 256],
-    pub ghost sized: { Sized sizes },
-    pub ghost tabled: { Tabled (steps_by sizes) 256 steps counts },
-}
-
-impl Table {
-    pub fn new(sizes: Sizes) -> Table
-        requires { Sized sizes }
-        ensures { result.sizes ≡ sizes }
-    {
-        let cut = Cut::new(sizes);
-        let mut steps = [0u16; 9216];
-        let mut counts = [0usize; 256];
-        for m in 0..256 {
-            let end = put_pattern(&cut, m, &mut steps[..], 36 * m);
-            counts[m] = end - 36 * m;
-        }
-        Table {
-            sizes,
-            steps,
-            counts,
-        }
+    for m in 0..256 {
+        let end = put_pattern(&cut, m, steps, 36 * m);
+        counts[m] = end - 36 * m;
     }
 }

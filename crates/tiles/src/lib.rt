@@ -5,10 +5,10 @@ ghost use Rattle.std.specs.Prelude.{◌≡◌, ◌+◌, ◌*◌, ◌≤◌, ◌<
 ghost use Rattle.std.proofs.lemmas.List.Edits.{sets};
 ghost use Rattle.lists.specs.Lists.{over};
 ghost use Rattle.paper.specs.Room.{needed_slots};
+ghost use Rattle.patterns.specs.Table.{steps_by, Tabled};
 ghost use Rattle.tiles.specs.Tiles.{source, size_of, tile_of, tile_at, row_tiles, row_tiles_at, layer_tiles, tiles_by};
 ghost use Rattle.tiles.specs.Tiles.{Reaching, RowReaching};
 
-use patterns::Table;
 use rows::{Quad, Rows};
 
 // The triangles of a cube with pattern m, from place `at` on; the next place is returned.
@@ -85,13 +85,14 @@ pub fn put_row(
     next
 }
 
-// What triangles are written from: the table of patterns, the slots of the edges, and the rows of the cubes.
+// What triangles are written from: the table of patterns with its counts, the slots of the edges, and the rows of the cubes.
 #[derive(Clone, Copy)]
 pub struct Tiling<'a> {
-    pub table: &'a Table,
+    pub table: &'a [u16],
+    pub counts: &'a [usize],
     pub slots: &'a [u32],
     pub rows: Rows<'a>,
-    pub ghost same: { table.now.sizes ≡ rows.sizes },
+    pub ghost tabled: { Tabled (steps_by rows.sizes) 256 table.now counts.now },
     pub ghost room: { needed_slots rows.sizes ≤ length slots.now },
 }
 
@@ -99,9 +100,9 @@ impl Tiling<'_> {
     // The triangles of the row of cubes at y and z.
     pub fn put_row_at(&self, y: usize, z: usize, out: &mut [u32], at: usize) -> usize
         requires fact { (y + 1 < self.now.rows.sizes.ny) × (z + 1 < self.now.rows.sizes.nz) }
-        requires z_in_bounds { let S = source self.now.table.now.steps self.now.table.now.counts self.now.slots.now in
+        requires z_in_bounds { let S = source self.now.table.now self.now.counts.now self.now.slots.now in
             at + length (row_tiles_at S self.now.rows.sizes self.now.rows.sides.now self.now.rows.cubes.now y z) ≤ length out.old }
-        ensures { let S = source self.now.table.now.steps self.now.table.now.counts self.now.slots.now in
+        ensures { let S = source self.now.table.now self.now.counts.now self.now.slots.now in
             let new = row_tiles_at S self.now.rows.sizes self.now.rows.sides.now self.now.rows.cubes.now y z in
             (out.new ≡ sets out.old at new) × (result ≡ at + length new) }
     {
@@ -113,8 +114,8 @@ impl Tiling<'_> {
         }
         let q = self.rows.quad(r);
         put_row(
-            &self.table.steps,
-            &self.table.counts,
+            self.table,
+            self.counts,
             self.slots,
             q,
             v,
@@ -128,9 +129,9 @@ impl Tiling<'_> {
     // The triangles of the cubes of layer z.
     fn put_layer(&self, z: usize, out: &mut [u32], at: usize) -> usize
         requires fact { z + 1 < self.now.rows.sizes.nz }
-        requires z_in_bounds { let S = source self.now.table.now.steps self.now.table.now.counts self.now.slots.now in
+        requires z_in_bounds { let S = source self.now.table.now self.now.counts.now self.now.slots.now in
             at + length (layer_tiles S self.now.rows.sizes self.now.rows.sides.now self.now.rows.cubes.now z) ≤ length out.old }
-        ensures { let S = source self.now.table.now.steps self.now.table.now.counts self.now.slots.now in
+        ensures { let S = source self.now.table.now self.now.counts.now self.now.slots.now in
             let new = layer_tiles S self.now.rows.sizes self.now.rows.sides.now self.now.rows.cubes.now z in
             (out.new ≡ sets out.old at new) × (result ≡ at + length new) }
     {
@@ -144,17 +145,15 @@ impl Tiling<'_> {
 }
 
 // The triangles of all cubes that the rows have are written to the front of a triangle slice.
-pub fn put_triangles<'a>(table: &'a Table, slots: &'a [u32], rows: &Rows<'a>, triangles: &mut [u32])
-    requires sized { (table.now.sizes ≡ rows.now.sizes) × (needed_slots rows.now.sizes ≤ length slots.now) }
-    requires cubes_in_bounds { let S = source table.now.steps table.now.counts slots.now in
-        length (tiles_by S rows.now.sizes rows.now.sides.now rows.now.cubes.now) ≤ length triangles.old }
-    ensures { let S = source table.now.steps table.now.counts slots.now in
-        let new = tiles_by S rows.now.sizes rows.now.sides.now rows.now.cubes.now in
-        triangles.new ≡ over new triangles.old }
+pub fn put_triangles(tiling: &Tiling, triangles: &mut [u32])
+    requires cubes_in_bounds { let w = tiling.now.rows in
+        let S = source tiling.now.table.now tiling.now.counts.now tiling.now.slots.now in
+        length (tiles_by S w.sizes w.sides.now w.cubes.now) ≤ length triangles.old }
+    ensures { let w = tiling.now.rows in
+        let S = source tiling.now.table.now tiling.now.counts.now tiling.now.slots.now in
+        triangles.new ≡ over (tiles_by S w.sizes w.sides.now w.cubes.now) triangles.old }
 {
-    let rows = *rows;
-    let tiling = Tiling { table, slots, rows };
-    let n = rows.sizes.nz - 1;
+    let n = tiling.rows.sizes.nz - 1;
     let mut at = 0;
     for z in 0..n {
         at = tiling.put_layer(z, triangles, at);

@@ -10,7 +10,6 @@ use Rattle.lists.proofs.Stores.{beyond_refl}
 use Rattle.paper.specs.declared.BuildError.{BuildError}
 use Rattle.paper.specs.declared.BuildError.TheVariants.{Refused, VertexRoom, TriangleRoom}
 use Rattle.paper.specs.declared.SheetCounts.{SheetCounts}
-use Rattle.paper.specs.declared.Sizes.{Sizes}
 use Rattle.paper.specs.Lattice.{Lattice, lattice}
 use Rattle.paper.specs.Refused.{built_told}
 use Rattle.paper.specs.Room.{output_after, needed_slots}
@@ -19,7 +18,7 @@ use Rattle.patterns.specs.Table.{steps_by, Tabled}
 use Rattle.paper.proofs.Refusals.{some_number}
 use Rattle.build_output.proofs.Output.{crossed, edges_length, vertices_are, past_slots, triangles_are, triangles_length}
 use Rattle.build_output.proofs.put_sheet.Goals as goal
-use Rattle.build_output.proofs.put_sheet.Goals.{After-new-table, Start}
+use Rattle.build_output.proofs.put_sheet.Goals.{After-pattern_table, Start}
 
 -- a refused build's number is not 0
 refused : (e : BuildError) → (built_told (Err e)).number ≡ 0 → ⊥
@@ -41,11 +40,11 @@ module _ (s : goal.Start) where
   full = s.args.surface.now.full
 
 -- the table is this lattice's
-made : (c : goal.After-new-table) → Tabled (steps_by c.args.surface.now.rows.sizes) 256 c.new-table.result.steps c.new-table.result.counts
-made c = subst (λ (z : Sizes). Tabled (steps_by z) 256 c.new-table.result.steps c.new-table.result.counts) c.new-table.ensures c.new-table.result.tabled
+made : (c : goal.After-pattern_table) → Tabled (steps_by c.args.surface.now.rows.sizes) 256 c.pattern_table.new.steps c.pattern_table.new.counts
+made c = c.pattern_table.ensures
 
 -- tests 6 and 7 have passed
-passed : (c : goal.After-new-table) → (built_told c.args.built).number ≡ 0
+passed : (c : goal.After-pattern_table) → (built_told c.args.built).number ≡ 0
 passed c = ap (λ (r : Result SheetCounts BuildError). (built_told r).number) c.in_default.is
 
 pub returns-in-Err : goal.returns-in-Err
@@ -67,15 +66,15 @@ pub put_vertices-requires-clause-vertices_in_bounds : goal.put_vertices-requires
 put_vertices-requires-clause-vertices_in_bounds c =
     let s = (goal.at.put_vertices-requires-clause-vertices_in_bounds c).Start in
     let p = c.requires.standing in
-    let fit = c.requires.fits (passed (goal.at.put_vertices-requires-clause-vertices_in_bounds c).After-new-table) in
+    let fit = c.requires.fits (passed (goal.at.put_vertices-requires-clause-vertices_in_bounds c).After-pattern_table) in
     omega (arith, fit.vertices_fit p.start p.stands, edges_length (L s) (full s) _ _ p.start p.stands)
 
-pub put_triangles-requires-clause-cubes_in_bounds : goal.put_triangles-requires-clause-cubes_in_bounds
-put_triangles-requires-clause-cubes_in_bounds c =
-    let s = (goal.at.put_triangles-requires-clause-cubes_in_bounds c).Start in
+pub put_triangles-requires : goal.put_triangles-requires
+put_triangles-requires c =
+    let s = (goal.at.put_triangles-requires c).Start in
     let p = c.requires.standing in
-    let fit = c.requires.fits (passed (goal.at.put_triangles-requires-clause-cubes_in_bounds c).After-new-table) in
-    let long = triangles_length (L s) (full s) _ _ p.start p.stands c.args.slots.now c.requires.slots_in_bounds _ _ (made (goal.at.put_triangles-requires-clause-cubes_in_bounds c).After-new-table) _ c.put_vertices.ensures.slots in
+    let fit = c.requires.fits (passed (goal.at.put_triangles-requires c).After-pattern_table) in
+    let long = triangles_length (L s) (full s) _ _ p.start p.stands c.args.slots.now c.requires.slots_in_bounds _ _ (made (goal.at.put_triangles-requires c).After-pattern_table) _ c.put_vertices.ensures.slots in
     omega (arith, long, fit.triangles_fit p.start p.stands)
 
 pub returns : goal.returns
@@ -84,7 +83,7 @@ returns c =
     let s = (goal.at.returns c).Start in
     let p = c.requires.standing in
     let d = c.put_vertices.ensures in
-    let z = passed (goal.at.returns c).After-new-table in
+    let z = passed (goal.at.returns c).After-pattern_table in
     let fit = c.requires.fits z in
     let slots = c.args.slots.now in (
       record {
@@ -95,7 +94,7 @@ returns c =
                   rw (eq-eqb _ 0 z)
                   (c.put_triangles.ensures
                   ∙ ap (λ (l : List ℕ). over l c.args.triangles.now)
-                  (triangles_are (L s) (full s) _ _ k h slots c.requires.slots_in_bounds _ _ (made (goal.at.returns c).After-new-table) _ d.slots));
+                  (triangles_are (L s) (full s) _ _ k h slots c.requires.slots_in_bounds _ _ (made (goal.at.returns c).After-pattern_table) _ d.slots));
             };
       },
       subst (Beyond (needed_slots c.args.surface.now.rows.sizes) slots) (sym d.slots) (past_slots (L s) (full s) _ _ p.start p.stands slots),

@@ -9,5 +9,5 @@ abbrev pub invariant-loop-z : goal.invariant-loop-z
 invariant-loop-z l =
     let w = l.tiling.rows in
     let f = l.file in
-    let S = source l.tiling.table.now.steps l.tiling.table.now.counts l.tiling.slots.now in
+    let S = source l.tiling.table.now l.tiling.counts.now l.tiling.slots.now in
     Found (layer_tiles S w.sizes w.sides.now w.cubes.now) (file_triangles f.bytes.now) 0 (3 * f.triangles) (w.sizes.nz - 1) l.z l.next

@@ -1,14 +1,12 @@
 -- The row is written to the front of a slice, and the file compared with it. Assumes nothing.
-use mathlib.Core.Path.{◌≡◌, sym, subst, ◌∙◌}
+use mathlib.Core.Path.{◌≡◌, sym, ◌∙◌}
 use mathlib.Core.List.{List}
 use Prim.Native.Nat.{ℕ, ◌≤◌}
 use native.Mathlib.Omega.{arith}
 use native.Mathlib.Nat.{zero-add}
 use lib.ListN.{length, take, drop}
 use lib.Seq.{length-take-le}
-use Rattle.paper.specs.declared.Sizes.{Sizes}
 use Rattle.paper.specs.File.{file_triangles}
-use Rattle.patterns.specs.Table.{steps_by, Tabled}
 use Rattle.tiles.specs.Tiles.{Source, source, row_tiles_at}
 use Rattle.check_ordered.proofs.Laws.{follows_front}
 use Rattle.check_ordered_triangles.proofs.Tiles.{row_few}
@@ -16,7 +14,7 @@ use Rattle.check_ordered_triangles.proofs.behind_row.Goals as goal
 use Rattle.check_ordered_triangles.proofs.behind_row.Goals.{After-put_row_at-n, Start}
 
 abbrev from : goal.Start → Source
-from s = let t = s.args.tiling.now.table.now in source t.steps t.counts s.args.tiling.now.slots.now
+from s = let t = s.args.tiling.now in source t.table.now t.counts.now s.args.tiling.now.slots.now
 
 -- the row's numbers
 abbrev new : goal.Start → List ℕ
@@ -24,10 +22,9 @@ new s = let w = s.args.tiling.now.rows in row_tiles_at (from s) w.sizes w.sides.
 
 few : (s : goal.Start) → length (new s) ≤ 2304
 few s =
-    let t = s.args.tiling.now.table.now in
-    let w = s.args.tiling.now.rows in
-    let T = subst (λ (z : Sizes). Tabled (steps_by z) 256 t.steps t.counts) s.args.tiling.now.same t.tabled in
-    row_few w.sizes w.sized (from s) T w.sides.now w.cubes.now s.args.y s.args.z
+    let t = s.args.tiling.now in
+    let w = t.rows in
+    row_few w.sizes w.sized (from s) t.tabled w.sides.now w.cubes.now s.args.y s.args.z
 
 count : (c : goal.After-put_row_at-n) → c.put_row_at-n.result ≡ length (new (goal.at.After-put_row_at-n c).Start)
 count c = c.put_row_at-n.ensures.1 ∙ zero-add _

@@ -1,9 +1,6 @@
 -- First the vertices, then the triangles by the slots that these numbered. Assumes nothing.
-use mathlib.Core.Path.{subst}
-use Rattle.paper.specs.declared.Sizes.{Sizes}
 use Rattle.paper.specs.Lattice.{Lattice, lattice}
 use Rattle.dots.proofs.Meaning.{edges_crossed}
-use Rattle.patterns.specs.Table.{steps_by, Tabled}
 use Rattle.check_past.proofs.Order.{in_order_passes}
 use Rattle.check_past.proofs.in_order.Goals as goal
 use Rattle.check_past.proofs.in_order.Goals.{Start}
@@ -20,12 +17,9 @@ same_vertices-requires-clause-crossed c =
 pub returns : goal.returns
 returns c =
     let s = (goal.at.returns c).Start in
-    let z = c.args.surface.now.rows.sizes in
     let v = c.same_vertices in
-    let t = c.new-table.result in
     let same = v.ensures.0 c.if-not-same_vertices.false in
-    let tab : Tabled (steps_by z) 256 t.steps t.counts =
-    subst (λ (z : Sizes). Tabled (steps_by z) 256 t.steps t.counts) c.new-table.ensures t.tabled in (
+    let tab = c.pattern_table.ensures in (
       λ e.
           in_order_passes c.args.rule (L s) c.args.surface.now.full.sized _ _ _ _ _ _ _ tab c.requires.room same.0 same.1
           (c.same_triangles.ensures e),

@@ -7,7 +7,7 @@ use lib.ListN.{set}
 use Rattle.tetra.specs.Cut.{row_steps}
 use Rattle.patterns.specs.Table.{pattern_from, Tabled}
 use Rattle.patterns.proofs.Laws.{Filling, filling_more, pattern_is}
-use Rattle.patterns.proofs.Table.new.Goals as goal
+use Rattle.patterns.proofs.pattern_table.Goals as goal
 
 pub loop-m-preserved : goal.loop-m-preserved
 loop-m-preserved c =
@@ -18,8 +18,8 @@ loop-m-preserved c =
     subst (λ (t : List ℕ). Filling s (m + 1) t (set w.counts m (end - 36 * m))) (sym c.put_pattern-end.ensures.0)
     (filling_more s m end w.steps w.counts w.invariant (omega arith) c.put_pattern-end.ensures.1)
 
-pub invariant_of-result-clause-tabled : goal.invariant_of-result-clause-tabled
-invariant_of-result-clause-tabled c =
+pub returns : goal.returns
+returns c =
     let z = c.args.sizes in
     let cut = c.new-cut.result in
     let w = c.loop-m in

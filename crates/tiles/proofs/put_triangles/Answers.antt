@@ -14,12 +14,12 @@ use Rattle.tiles.proofs.put_triangles.Goals.{Start}
 -- the numbers of a layer
 abbrev one : goal.Start → ℕ → List ℕ
 one s =
-    let t = s.args.table.now in
-    let w = s.args.rows.now in
-    layer_tiles (source t.steps t.counts s.args.slots.now) w.sizes w.sides.now w.cubes.now
+    let t = s.args.tiling.now in
+    let w = s.args.tiling.now.rows in
+    layer_tiles (source t.table.now t.counts.now s.args.tiling.now.slots.now) w.sizes w.sides.now w.cubes.now
 
 abbrev end : goal.Start → ℕ
-end s = s.args.rows.now.sizes.nz - 1
+end s = s.args.tiling.now.rows.sizes.nz - 1
 
 pub put_layer-at-requires-clause-z_in_bounds : goal.put_layer-at-requires-clause-z_in_bounds
 unfolding tiles_by

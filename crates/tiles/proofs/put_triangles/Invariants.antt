@@ -5,6 +5,6 @@ use Rattle.tiles.proofs.put_triangles.Given as goal
 
 abbrev pub invariant-loop-z : goal.invariant-loop-z
 invariant-loop-z l =
-    let w = l.rows in
-    let S = source l.table.steps l.table.counts l.slots in
+    let w = l.tiling.rows in
+    let S = source l.tiling.table.now l.tiling.counts.now l.tiling.slots.now in
     Laid (layer_tiles S w.sizes w.sides.now w.cubes.now) 0 l.n l.z l.at l.initial.triangles l.triangles

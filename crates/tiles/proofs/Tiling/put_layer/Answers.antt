@@ -10,9 +10,9 @@ use Rattle.tiles.proofs.Tiling.put_layer.Goals.{Start}
 -- the numbers of a row
 abbrev one : goal.Start → ℕ → List ℕ
 one s y =
-    let t = s.args.self.now.table.now in
+    let t = s.args.self.now in
     let w = s.args.self.now.rows in
-    row_tiles_at (source t.steps t.counts s.args.self.now.slots.now) w.sizes w.sides.now w.cubes.now y s.args.z
+    row_tiles_at (source t.table.now t.counts.now s.args.self.now.slots.now) w.sizes w.sides.now w.cubes.now y s.args.z
 
 abbrev end : goal.Start → ℕ
 end s = s.args.self.now.rows.sizes.ny - 1

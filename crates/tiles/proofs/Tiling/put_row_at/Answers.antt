@@ -1,22 +1,20 @@
 -- By whether the row has a cube. Assumes nothing.
-use mathlib.Core.Path.{◌≡◌, sym, ap, subst, ◌∙◌}
+use mathlib.Core.Path.{◌≡◌, sym, ap, ◌∙◌}
 use mathlib.Core.List.{List}
 use Prim.Native.Nat.{ℕ, ◌+◌, ◌-◌, ◌*◌}
 use native.Mathlib.Omega.{arith}
 use lib.ListN.{length, get_or}
 use lib.Seq.{sets}
-use Rattle.paper.specs.declared.Sizes.{Sizes}
 use Rattle.rows.specs.declared.Quad.{Quad}
 use Rattle.rows.specs.Rows.{quad_at}
 use Rattle.rows.proofs.Cubes.{quad_within}
-use Rattle.patterns.specs.Table.{steps_by, Tabled}
 use Rattle.tiles.specs.Tiles.{Source, source, row_tiles, row_tiles_at}
 use Rattle.tiles.proofs.Laws.{row_empty, row_reaching}
 use Rattle.tiles.proofs.Tiling.put_row_at.Goals as goal
 use Rattle.tiles.proofs.Tiling.put_row_at.Goals.{After-quad-q, Start}
 
 abbrev from : goal.Start → Source
-from s = let t = s.args.self.now.table.now in source t.steps t.counts s.args.self.now.slots.now
+from s = let t = s.args.self.now in source t.table.now t.counts.now s.args.self.now.slots.now
 
 -- the row's number, its word of cubes, and 7 × the number of its first sample
 abbrev row_no : goal.Start → ℕ
@@ -58,11 +56,9 @@ pub put_row-requires-clause-fact : goal.put_row-requires-clause-fact
 put_row-requires-clause-fact c =
     let a = c.args in
     let n = a.self.now.rows.sizes in
-    let t = a.self.now.table.now in
-    let s = (goal.at.put_row-requires-clause-fact c).Start in
-    let T : Tabled (steps_by n) 256 t.steps t.counts =
-    subst (λ (z : Sizes). Tabled (steps_by z) 256 t.steps t.counts) a.self.now.same t.tabled in (
-      row_reaching n (from s) T (length a.self.now.slots.now) a.self.now.room c.quad-q.result (cubes_in s) a.y a.z c.requires.fact.0
+    let t = a.self.now in
+    let s = (goal.at.put_row-requires-clause-fact c).Start in (
+      row_reaching n (from s) t.tabled (length a.self.now.slots.now) a.self.now.room c.quad-q.result (cubes_in s) a.y a.z c.requires.fact.0
           c.requires.fact.1,
       omega (arith, c.requires.z_in_bounds, ap length (same (goal.at.put_row-requires-clause-fact c).After-quad-q)),
     )
