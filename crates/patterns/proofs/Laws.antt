@@ -230,6 +230,12 @@ pub record Filling (s : List ℕ) (m : ℕ) (table counts : List ℕ) : Type 0 w
   pub upto : m ≤ 256
   pub tabled : Tabled (pattern_from s) m table counts
 
+pub filling_none : (s table counts : List ℕ) → 9216 ≤ length table → 256 ≤ length counts → Filling s 0 table counts
+filling_none s table counts a b = record {
+  upto = omega arith;
+  tabled = record { table_fit = a; counts_fit = b; count = λ k l. absurd (omega arith); at = λ k i l g. absurd (omega arith) };
+}
+
 pub filling_more : (s : List ℕ) (m end : ℕ) (table counts : List ℕ) → Filling s m table counts → m < 256
     → end ≡ 36 * m + length (pattern_from s m)
     → Filling s (m + 1) (sets table (36 * m) (pattern_from s m)) (set counts m (end - 36 * m))
