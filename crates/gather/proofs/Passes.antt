@@ -77,7 +77,7 @@ walk_none z rows may k h due f e = record {
 pub walk_more : (z : Sizes) (rows may : List ℕ) {i j k l : ℕ} {a b c : Held} {due₀ due₁ due : List ℕ} → Walk z rows may i j a b due₀ due₁
     → j ≡ k → Walk z rows may k l b c due₁ due → Walk z rows may i l a c due₀ due
 walk_more z rows may {i} {j} {k} {l} {a} {b} {c} w e m = record {
-  leads = leads_join z rows may i k l a b c (leads_at z rows may refl e w.leads) m.leads;
+  leads = leads_more z rows may w.leads e m.leads refl;
   empty = m.empty;
   same_vis = m.same_vis ∙ w.same_vis;
   same_due = m.same_due ∙ w.same_due;
