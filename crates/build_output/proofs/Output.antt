@@ -1,5 +1,5 @@
 -- What is drawn by rows is the sheet: its vertices, the numbers in the slots of its edges, its triangles. Assumes nothing.
-use mathlib.Core.Path.{◌≡◌, sym, ap, ◌∙◌}
+use mathlib.Core.Path.{◌≡◌, refl, sym, ap, subst, ◌∙◌}
 use mathlib.Core.List.{List}
 use Prim.Native.Nat.{ℕ, ◌-◌, ◌*◌, ◌/◌, ◌≤◌}
 use native.Mathlib.Omega.{arith}
@@ -67,46 +67,43 @@ module _ (L : Lattice) (full : Full L) (rows vis : List ℕ) (k : ℕ) (s : Stan
 
 -- ── tests 6 and 7 ──
 
-module _ (L : Lattice) (rows vis : List ℕ) (c : SheetCounts) (counted : Counted L.size rows vis (sheet_counts c)) where
+module _ (L : Lattice) (rows vis : List ℕ) (c : Counts) (counts : Counted L.size rows vis c) where
   -- the counts are the sheet's
   counts_are : (k : ℕ) → Stands L k rows vis
-      → sheet_counts c ≡ record { vertices = length (sheet_of build_rule L k).edges; triangles = length (sheet_of build_rule L k).triangles }
+      → c ≡ record { vertices = length (sheet_of build_rule L k).edges; triangles = length (sheet_of build_rule L k).triangles }
   counts_are k s =
-      let v = counted.vertices build_rule L.values k s.sides s.cubes in
-      let t = counted.triangles build_rule L.values k s.sides s.cubes in
+      let v = counts.vertices build_rule L.values k s.sides s.cubes in
+      let t = counts.triangles build_rule L.values k s.sides s.cubes in
       λ i. record { vertices = v i; triangles = t i }
 
-  -- the number of the test that fails, for the lengths of the lent output
-  abbrev pub number : ℕ → ℕ → ℕ
-  number vertices triangles = (judge (room_tests c.vertices c.triangles (vertices / 4) (triangles / 3))).number
-
-  pub fits : (vertices triangles : ℕ) → number vertices triangles ≡ 0 → Fits L rows vis vertices triangles
-  fits vertices triangles z =
-      let r = room_tests_law c.vertices c.triangles (vertices / 4) (triangles / 3) z in
+  pub fits : (n vertices triangles : ℕ) → n ≡ (judge (room_tests c.vertices c.triangles (vertices / 4) (triangles / 3))).number
+      → n ≡ 0 → Fits L rows vis vertices triangles
+  fits n vertices triangles e z =
+      let r = room_tests_law c.vertices c.triangles (vertices / 4) (triangles / 3) (sym e ∙ z) in
       record {
-        vertices_fit = λ k s. omega (arith, r.0, counted.vertices build_rule L.values k s.sides s.cubes);
-        triangles_fit = λ k s. omega (arith, r.1, counted.triangles build_rule L.values k s.sides s.cubes);
+        vertices_fit = λ k s. omega (arith, r.0, counts.vertices build_rule L.values k s.sides s.cubes);
+        triangles_fit = λ k s. omega (arith, r.1, counts.triangles build_rule L.values k s.sides s.cubes);
       }
 
   -- ── the answer, and what is left ──
 
-  module _ (k : ℕ) (s : Stands L k rows vis) (l : Lent) (seen : c.cubes ≡ length (visited L k)) where
+  module _ (k : ℕ) (s : Stands L k rows vis) (l : Lent) (visits n : ℕ) (seen : visits ≡ length (visited L k))
+      (e : n ≡ (judge (room_tests c.vertices c.triangles (vertex_room l.vertices) (triangle_room l.triangles))).number) where
     abbrev T' : Sheet
     T' = sheet_of build_rule L k
-
-    abbrev n : ℕ
-    n = number (length l.vertices) (length l.triangles)
 
     number_is : n ≡ room_number T' l
     number_is =
         let u = vertex_room l.vertices in
         let v = triangle_room l.triangles in
-        ap (λ (c : Counts). (judge (room_tests c.vertices c.triangles u v)).number) (counts_are k s)
+        e ∙ ap (λ (c : Counts). (judge (room_tests c.vertices c.triangles u v)).number) (counts_are k s)
 
-    pub builds_from : (r : Built) → r ≡ built_with n c → (o : Output) → Puts L rows vis n (output l.vertices l.triangles) o
-        → (waiting slots : List ℕ) → Beyond (needed L.size) l.work.waiting waiting → Beyond (needed_slots L.size) l.work.slots slots
-        → (w : Work) → w ≡ clean L.size (work l.work.words waiting slots) → BuildsFrom L k l r (lent o.vertices o.triangles w)
-    builds_from a e o put waiting slots b d w clear =
+    pub builds_from : (o : Output) → Puts L rows vis n (output l.vertices l.triangles) o → (waiting slots : List ℕ)
+        → Beyond (needed L.size) l.work.waiting waiting → Beyond (needed_slots L.size) l.work.slots slots → (w : Work)
+        → w ≡ clean L.size (work l.work.words waiting slots)
+        → BuildsFrom L k l (record { number = n; vertices = c.vertices; triangles = c.triangles; cubes = visits })
+        (lent o.vertices o.triangles w)
+    builds_from o put waiting slots b d w clear =
         let p = put.written k s in
         let q = clear_beyond (needed L.size) l.work.waiting waiting b in
         let r = clear_beyond (needed_slots L.size) l.work.slots slots d in
@@ -115,10 +112,29 @@ module _ (L : Lattice) (rows vis : List ℕ) (c : SheetCounts) (counted : Counte
         let f = clear ∙ (λ i. work (cleared (needed L.size) l.work.words) (q i) (r i)) in
         let seen' = seen ∙ sym (parts build_rule L k).visits in
         record {
-          answer =
-              e
-              ∙ (λ i.
+          answer = λ i.
               let d = counts_are k s i in
-              record { number = number_is i; vertices = d.vertices; triangles = d.triangles; cubes = seen' i });
+              record { number = number_is i; vertices = d.vertices; triangles = d.triangles; cubes = seen' i };
           left = λ i. lent (v i) (t i) (f i);
         }
+
+-- ── by the counts that a build has ──
+
+module _ (L : Lattice) (rows vis : List ℕ) (c : SheetCounts) (counted : Counted L.size rows vis (sheet_counts c)) where
+  -- the number of the test that fails, for the lengths of the lent output
+  abbrev pub number : ℕ → ℕ → ℕ
+  number vertices triangles = (judge (room_tests c.vertices c.triangles (vertices / 4) (triangles / 3))).number
+
+  pub build_fits : (vertices triangles : ℕ) → number vertices triangles ≡ 0 → Fits L rows vis vertices triangles
+  build_fits vertices triangles = fits L rows vis (sheet_counts c) counted (number vertices triangles) vertices triangles refl
+
+  module _ (k : ℕ) (s : Stands L k rows vis) (l : Lent) (seen : c.cubes ≡ length (visited L k)) where
+    abbrev n : ℕ
+    n = number (length l.vertices) (length l.triangles)
+
+    pub build_done : (r : Built) → r ≡ built_with n c → (o : Output) → Puts L rows vis n (output l.vertices l.triangles) o
+        → (waiting slots : List ℕ) → Beyond (needed L.size) l.work.waiting waiting → Beyond (needed_slots L.size) l.work.slots slots
+        → (w : Work) → w ≡ clean L.size (work l.work.words waiting slots) → BuildsFrom L k l r (lent o.vertices o.triangles w)
+    build_done r e o put waiting slots b d w clear =
+        subst (λ (r : Built). BuildsFrom L k l r (lent o.vertices o.triangles w)) (sym e)
+        (builds_from L rows vis (sheet_counts c) counted k s l c.cubes n seen refl o put waiting slots b d w clear)

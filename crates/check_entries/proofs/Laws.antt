@@ -1,7 +1,8 @@
 -- A crossing from the first end, and edges of a row that rise. Assumes nothing.
-use Rattle.std.proofs.Common.{◌≡◌, ℕ, ◌+◌, ◌-◌, ◌*◌, ◌<◌, ◌≤◌, Bool, true, false, cond, T, ℤ, pos, ◌+ℤ◌, ◌-ℤ◌, ◌*ℤ◌, sym, refl, ap, ◌∙◌, subst, arith, w32, SFits}
+use Rattle.std.proofs.Common.{◌≡◌, ℕ, ◌+◌, ◌-◌, ◌*◌, ◌<◌, ◌≤◌, Bool, true, false, cond, T, ℤ, pos, negsuc, ◌+ℤ◌, ◌-ℤ◌, ◌*ℤ◌, nat_abs, sym, refl, ap, ◌∙◌, subst, arith, w32, SFits}
 use mathlib.Core.Bool.{xor}
 use native.Mathlib.Decide.{dec_lt}
+use lib.Signed.{lt_z, non_neg}
 use Rattle.paper.specs.declared.Rule.{Rule}
 use Rattle.paper.specs.Lattice.{air}
 use Rattle.paper.specs.Sheet.{crossing, coordinate}
@@ -9,6 +10,16 @@ use Rattle.paper.proofs.Ints.{sub_pos, sub_neg}
 use Rattle.crossing.specs.Vertex.{Near}
 use Rattle.crossing.proofs.Coordinates.{stepped, stepped_is, fit}
 use Rattle.check_entries.specs.Entries.{along, Stepping}
+
+-- ── numbers that are not below 0 ──
+
+pub not_below_zero : (z : ℤ) → lt_z z (pos 0) ≡ false → T (non_neg z)
+not_below_zero (pos n) e = tt
+not_below_zero (negsuc n) e = absurd (subst T e tt)
+
+pub not_negative : (z : ℤ) → lt_z z (pos 0) ≡ false → z ≡ pos (nat_abs z)
+not_negative (pos n) e = refl
+not_negative (negsuc n) e = absurd (subst T e tt)
 
 -- ── from the first end ──
 

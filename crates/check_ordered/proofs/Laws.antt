@@ -6,6 +6,7 @@ use Prim.Native.Nat.{ℕ, ◌+◌, ◌≤◌, ◌<◌}
 use native.Mathlib.Omega.{arith}
 use lib.ListN.{length, get_or, take, drop, length-append, length-drop}
 use lib.Seq.{length-take-le, take_all, take-add, drop-drop, get_or-take, get_or-drop, ext_get_or, take-append_seam, sets}
+use borrow.Author.Count.{below_more}
 use Rattle.lists.specs.Lists.{range, each}
 use Rattle.lists.proofs.Runs.{each_more}
 use Rattle.lists.proofs.Stores.{sets_front}
@@ -16,6 +17,16 @@ module _ {A : Type 0} (d : A) (fs ws : List A) (at : ℕ) where
   pub record Alike (n i : ℕ) (same : Bool) : Type 0 where
     pub upto : i ≤ n
     pub so_far : same ≡ true → (k : ℕ) → k < i → get_or fs (at + k) d ≡ get_or ws k d
+
+  pub alike_none : (n : ℕ) → Alike n 0 true
+  alike_none n = record { upto = omega arith; so_far = λ e k h. absurd (omega arith) }
+
+  pub alike_more : (n i : ℕ) (same r : Bool) → Alike n i same → i < n
+      → (r ≡ true → (same ≡ true) × (get_or fs (at + i) d ≡ get_or ws i d)) → Alike n (i + 1) r
+  alike_more n i same r a h f = record {
+    upto = omega arith;
+    so_far = λ e. below_more (λ k. get_or fs (at + k) d ≡ get_or ws k d) i (a.so_far (f e).0) (f e).1;
+  }
 
   pub alike_all : (n i : ℕ) (same : Bool) → Alike n i same → n ≤ i → at + n ≤ length fs → n ≤ length ws
       → same ≡ true → take n (drop at fs) ≡ take n ws
@@ -65,6 +76,9 @@ pub record Found {A : Type 0} (f : ℕ → List A) (fs : List A) (at end n k nex
   pub follows : Follows fs at (each f (range 0 k)) next
 
 module _ {A : Type 0} (f : ℕ → List A) (fs : List A) (at end n : ℕ) where
+  pub found_none : at ≤ end → Found f fs at end n 0 at
+  found_none h = record { upto = omega arith; within = h; follows = follows_none fs at }
+
   pub found_more : (k next next' : ℕ) → Found f fs at end n k next → k < n → next' ≤ end → Follows fs next (f k) next'
       → Found f fs at end n (k + 1) next'
   found_more k next next' g h l w = record {

@@ -55,6 +55,10 @@ module _ (rule : Rule) (L : Lattice) (fs : List ℤ) (nv : ℕ) where
 -- ── one row ──
 
 module _ (rule : Rule) (L : Lattice) (fs : List ℤ) (nv at : ℕ) (es before : List ℕ) where
+  -- the file differs
+  pub listing_differs : (r : ℕ) (after : List ℕ) → nv < r → Beyond (needed_slots L.size) before after → Listing rule L es fs nv at before r after
+  listing_differs r after h b = record { listed = λ g. absurd (omega arith); beyond = b }
+
   -- the file has it, where its edges are named otherwise
   pub listing_same : (es' : List ℕ) (r : ℕ) (after : List ℕ) → es' ≡ es → Listed rule L es' fs at before r after
       → Beyond (needed_slots L.size) before after → Listing rule L es fs nv at before r after
@@ -81,7 +85,13 @@ pub record Going (rule : Rule) (L : Lattice) (f : ℕ → List ℕ) (fs : List �
   pub listing : Listing rule L (each f (range 0 k)) fs nv at before next after
 
 module _ (rule : Rule) (L : Lattice) (f : ℕ → List ℕ) (fs : List ℤ) (nv at m : ℕ) (l : List ℕ) where
+  pub going_none : at ≤ nv → Going rule L f fs nv at m 0 at l l
+  going_none h = record { upto = omega arith; within = h; listing = listing_none rule L fs nv at l }
+
   module _ (k next : ℕ) (j : List ℕ) (g : Going rule L f fs nv at m k next l j) where
+    pub going_long : length j ≡ length l
+    going_long = g.listing.beyond.same_length
+
     -- one more
     pub going_more : (next' : ℕ) (i : List ℕ) → k < m → next' ≤ nv → Listing rule L (f k) fs nv next j next' i
         → Going rule L f fs nv at m (k + 1) next' l i
@@ -92,6 +102,11 @@ module _ (rule : Rule) (L : Lattice) (f : ℕ → List ℕ) (fs : List ℤ) (nv 
           subst (λ (es : List ℕ). Listing rule L es fs nv at l next' i) (sym (each_more f k))
           (listing_join rule L fs nv at next next' (each f (range 0 k)) (f k) l j i g.within g.listing B);
     }
+
+    -- the file differs in one more
+    pub going_differs : (next' : ℕ) (i : List ℕ) → nv < next' → Listing rule L (f k) fs nv next j next' i → (es : List ℕ)
+        → Listing rule L es fs nv at l next' i
+    going_differs next' i h B es = record { listed = λ w. absurd (omega arith); beyond = beyond_trans g.listing.beyond B.beyond }
 
     pub going_all : m ≤ k → Listing rule L (each f (range 0 m)) fs nv at l next j
     going_all h =

@@ -14,7 +14,7 @@ use Rattle.lists.proofs.Member.{or_cases, and_both, in_keep, in_range}
 use Rattle.lists.proofs.Every.{All, all_append, all_weak}
 use Rattle.lists.proofs.Rising.{Rising, keep_rising}
 use Rattle.lists.proofs.Runs.{each_append, rising_ge}
-use Rattle.lists.proofs.Stores.{beyond_trans, beyond_set}
+use Rattle.lists.proofs.Stores.{beyond_refl, beyond_trans, beyond_set}
 use Rattle.paper.specs.declared.Rule.{Rule}
 use Rattle.paper.specs.declared.Sizes.{Sizes}
 use Rattle.paper.specs.Lattice.{Lattice, place, sample_no, samples}
@@ -26,7 +26,7 @@ use Rattle.dots.specs.Dots.{numbered}
 use Rattle.dots.proofs.Laws.{numbered_join}
 use Rattle.check_entries.specs.Entries.{has_edge, Entry}
 use Rattle.check_ordered.specs.Ordered.{Follows, kept, Entered}
-use Rattle.check_ordered.proofs.Laws.{Alike, alike_all, follows_join}
+use Rattle.check_ordered.proofs.Laws.{Alike, alike_all, follows_none, follows_join}
 
 -- ── lists that rise ──
 
@@ -91,6 +91,20 @@ module _ (rule : Rule) (L : Lattice) (ks : List ℕ) (fs : List ℤ) (row wide a
     pub follows : Follows fs (4 * at) (each vertex edges) (4 * (at + i))
     pub slots : after ≡ numbered at (map (λ e. row + e) edges) before
     pub beyond : Beyond (needed_slots L.size) before after
+
+  pub entering_none : (n : ℕ) → Entering n 0 0 before
+  entering_none n = record {
+    edges = [];
+    long = refl;
+    upto = omega arith;
+    lowest = omega arith;
+    rising = tt;
+    under = tt;
+    among = tt;
+    follows = let e : 4 * at ≡ 4 * (at + 0) = omega arith in subst (Follows fs (4 * at) []) e (follows_none fs (4 * at));
+    slots = refl;
+    beyond = beyond_refl (needed_slots L.size) before;
+  }
 
   -- one record of a file's
   one_follows : (i low e : ℕ) → Entry rule L ks fs row (at + i) low e → 4 * (at + i) + 4 ≤ length fs

@@ -1,12 +1,19 @@
--- The four numbers of a record, and two records that are the same. Assumes nothing.
-use mathlib.Core.Path.{◌≡◌, sym, ap, ◌∙◌}
-use mathlib.Core.Bool.{◌&&◌, and-true}
+-- Signed numbers that the machine compares, the four numbers of a record, two records that are the same, and an edge among n.
+-- Assumes nothing.
+use mathlib.Core.Path.{◌≡◌, refl, sym, ap, subst, ◌∙◌}
+use mathlib.Core.Bool.{Bool, true, false, cond, ◌&&◌, and-true}
 use mathlib.Core.List.{List, [], ◌∷◌}
-use Prim.Native.Nat.{ℕ, suc, ◌+◌, ◌*◌, ◌≤◌}
+use Prim.Native.Nat.{ℕ, suc, ◌+◌, ◌*◌, ◌≤◌, ◌<◌}
 use native.Mathlib.Omega.{arith}
-use lib.IntN.{ℤ, pos}
+use lib.IntN.{ℤ, pos, negsuc, nat_abs}
+use lib.Signed.{lt_z, non_neg}
+use lib.Dec.{T, eqb, eqb→eq, eqb_refl}
 use lib.ListN.{length, get_or, take, drop}
 use lib.Seq.{drop-cons}
+use borrow.Author.Tests.{lt-ltb, le-ltb, ltb-true}
+use mir.Syntax.{Width}
+use mir.Val.{SFits, to_z, of_z}
+use mir.Facts.{to_z-of_z}
 use Rattle.std.proofs.Common.{int_eq}
 use Rattle.std.proofs.lemmas.Bool.Decides.{Decides-int_eq}
 use Rattle.lists.proofs.Closure.{bool_same}
@@ -15,6 +22,14 @@ use Rattle.paper.specs.Check.{same_number, same_numbers, record_of, edge_of}
 use Rattle.paper.proofs.Records.{same_number_law, number_same}
 use Rattle.crossing.specs.declared.Vertex.{Vertex}
 use Rattle.crossing.specs.Vertex.{numbers}
+use Rattle.check_records.specs.Records.{edge_in}
+
+-- the machine compares bits
+pub same_bits : {w : Width} (x y : ℤ) → SFits w x → SFits w y → eqb (of_z w x) (of_z w y) ≡ same_number x y
+same_bits {w} x y f g =
+    bool_same (eqb (of_z w x) (of_z w y)) (same_number x y)
+    (λ t. number_same (sym (to_z-of_z f) ∙ (ap (to_z w) (eqb→eq _ _ t) ∙ to_z-of_z g)))
+    (λ t. subst (λ (k : ℤ). T (eqb (of_z w x) (of_z w k))) (same_number_law x y t) (eqb_refl (of_z w x)))
 
 -- two numbers are the same, by either test
 same_signed : (x y : ℤ) → int_eq x y ≡ same_number x y
@@ -51,3 +66,21 @@ four vs i h =
 pub edge_is : (v : Vertex) (vs : List ℤ) (i : ℕ) → 4 * i + 4 ≤ length vs → numbers v ≡ record_of vs i → v.edge ≡ edge_of vs i
 unfolding edge_of
 edge_is v vs i h e = ap (λ (l : List ℤ). get_or l 0 (pos 0)) (e ∙ four vs i h)
+
+-- ── an edge among n ──
+
+pub edge_below_zero : (z : ℤ) (n : ℕ) → lt_z z (pos 0) ≡ true → n ≡ edge_in z n
+edge_below_zero (pos m) n e = absurd (omega (arith, ltb-true m 0 e))
+edge_below_zero (negsuc m) n e = refl
+
+pub edge_small : (z : ℤ) (n : ℕ) → lt_z z (pos 0) ≡ false → nat_abs z < n → nat_abs z ≡ edge_in z n
+edge_small (pos m) n e h = sym (ap (λ (b : Bool). cond b m n) (lt-ltb m n h))
+edge_small (negsuc m) n e h = absurd (subst T e tt)
+
+pub edge_big : (z : ℤ) (n : ℕ) → lt_z z (pos 0) ≡ false → n ≤ nat_abs z → n ≡ edge_in z n
+edge_big (pos m) n e h = sym (ap (λ (b : Bool). cond b m n) (le-ltb m n h))
+edge_big (negsuc m) n e h = absurd (subst T e tt)
+
+pub not_below_zero : (z : ℤ) → lt_z z (pos 0) ≡ false → T (non_neg z)
+not_below_zero (pos m) e = tt
+not_below_zero (negsuc m) e = absurd (subst T e tt)

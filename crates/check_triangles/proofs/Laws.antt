@@ -1,5 +1,5 @@
 -- One triangle after the other: its cube, its place there, and the bits. Assumes nothing.
-use mathlib.Core.Path.{◌≡◌, refl, sym, ap, ◌∙◌}
+use mathlib.Core.Path.{◌≡◌, refl, sym, ap, subst, ◌∙◌}
 use mathlib.Core.Bool.{Bool, true, false, cond, not, ◌&&◌, and-false}
 use mathlib.Core.List.{List}
 use Prim.Native.Nat.{ℕ, zero, suc, ◌+◌, ◌-◌, ◌*◌, ◌/◌, ◌%◌, ◌^◌, ◌≤◌, ◌<◌}
@@ -12,7 +12,7 @@ use lib.Dec.{T, eqb, ltb, eqb→eq, ltb→lt}
 use lib.Signed.{non_neg}
 use lib.ListN.{length, get_or, set, length-set}
 use lib.Seq.{get_or-set_same, get_or-set_other}
-use borrow.Author.Tests.{eq-eqb, ne_eqb, lt-ltb, le-ltb, ltb-true, eqb-true}
+use borrow.Author.Tests.{eq-eqb, ne_eqb, lt-ltb, le-ltb, ltb-true, eqb-true, eqb-false}
 use Rattle.lists.specs.Lists.{range, first}
 use Rattle.lists.proofs.Firsts.{first_holds}
 use Rattle.lists.proofs.Computed.{upto_at}
@@ -192,6 +192,33 @@ pub base_few : (z : Sizes) → Sized z → (k : ℕ) → k < cubes z → base_of
 unfolding base_of
 base_few z s k h = omega (arith, sample_lt z (cube_at z k) (low_in z (cube_at z k) (cube_inside z s k h)), samples_few z s)
 
+module _ (z : Sizes) (words : List ℕ) (k : ℕ) (t : Tri) where
+  -- a search from the first place on
+  pub place_is : k < cubes z → cond (eqb (get_or words k 0) 0) 12 (place_from z (base_of z k) (get_or words k 0 % 256) t 0) ≡ place_in z words k t
+  unfolding place_in place_from place_by
+  place_is h = rw (lt-ltb k (cubes z) h) (go (eqb (get_or words k 0) 0))
+    where
+      go : (b : Bool) → let p = place_by z (base_of z k) (get_or words k 0 % 256) t in cond b 12 p ≡ cond (not b) p 12
+      go true = refl
+      go false = refl
+
+  -- what any search finds in a cube is where the triangle is
+  pub near_found : (i word r : ℕ) → Sure z words → k < cubes z → ((word ≡ 0 → ⊥) → word ≡ get_or words k 0)
+      → r ≡ cond (eqb word 0) 12 (place_from z (base_of z k) (word % 256) t i) → r < 12
+      → (holder z t ≡ k) × (place_of z words t ≡ r)
+  near_found i word r s hk is e h = go (eqb word 0) refl e
+    where
+      go : (b : Bool) → eqb word 0 ≡ b → r ≡ cond b 12 (place_from z (base_of z k) (word % 256) t i)
+          → (holder z t ≡ k) × (place_of z words t ≡ r)
+      go true q e = absurd (omega arith)
+      go false q e =
+          let some = eqb-false word 0 q in
+          let w = is some in
+          s.at k r t hk h (λ o. some (w ∙ o))
+          (subst (λ (n : ℕ). is_at z (base_of z k) (n % 256) t r ≡ true) w
+          (subst (λ (c : ℕ). is_at z (base_of z k) (word % 256) t c ≡ true) (sym e)
+          (from_holds z (base_of z k) (word % 256) t i (omega arith))))
+
 -- a search from the first place on in a cube that has a word
 pub searched : (z : Sizes) (words : List ℕ) (k : ℕ) (t : Tri) (base m : ℕ) → k < cubes z → base ≡ base_of z k
     → get_or words k 0 ≡ 256 + m → m < 256 → place_from z base m t 0 ≡ place_in z words k t
@@ -202,13 +229,15 @@ searched z words k t base m h b w l =
 
 module _ (z : Sizes) (words : List ℕ) (t : Tri) where
   -- what any search finds in a spot's cube is where the triangle is
-  pub near_found : (s : Spot) (i c : ℕ) → Sure z words → Based z words s → place_from z s.base s.pattern t i ≡ c → c < 12
+  pub spot_found : (s : Spot) (i c : ℕ) → Sure z words → Based z words s → place_from z s.base s.pattern t i ≡ c → c < 12
       → Found z words t (record { cube = s.cube; base = s.base; pattern = s.pattern; place = c })
-  near_found s i c S b e h =
-      let m : s.pattern ≡ get_or words s.cube 0 % 256 = omega (arith, b.word, b.pattern) in
-      let there : is_at z (base_of z s.cube) (get_or words s.cube 0 % 256) t c ≡ true =
-      sym (λ j. is_at z (b.base j) (m j) t (e j)) ∙ from_holds z s.base s.pattern t i (omega (arith, e)) in
-      let p = S.at s.cube c t b.cube h (λ o. absurd (omega (arith, b.word))) there in
+  spot_found s i c S b e h =
+      let word = get_or words s.cube 0 in
+      let m : s.pattern ≡ word % 256 = omega (arith, b.word, b.pattern) in
+      let some : word ≡ 0 → ⊥ = λ o. absurd (omega (arith, b.word)) in
+      let is : c ≡ cond (eqb word 0) 12 (place_from z (base_of z s.cube) (word % 256) t i) =
+      rw (ne_eqb word 0 some) (sym e ∙ (λ j. place_from z (b.base j) (m j) t i)) in
+      let p = near_found z words s.cube t i word c S b.cube (λ o. refl) is h in
       record {
         place = sym p.1;
         cube = sym p.0;

@@ -16,10 +16,10 @@ field_suc k [] (suc at) = omega (arith, ap unle (take-nil {A = ℕ} k))
 field_suc k (b ∷ bs) zero = refl
 field_suc k (b ∷ bs) (suc at) = field_suc k bs at
 
-field_more : (k : ℕ) (bs : List ℕ) (at next : ℕ) → next ≡ suc at → field (suc k) bs at ≡ get_or bs at 0 + 256 * field k bs next
+pub field_more : (k : ℕ) (bs : List ℕ) (at next : ℕ) → next ≡ suc at → field (suc k) bs at ≡ get_or bs at 0 + 256 * field k bs next
 field_more k bs at next e = rw e (field_suc k bs at)
 
-field_none : (bs : List ℕ) (at : ℕ) → field 0 bs at ≡ 0
+pub field_none : (bs : List ℕ) (at : ℕ) → field 0 bs at ≡ 0
 unfolding field
 field_none bs at = refl
 

@@ -1,16 +1,36 @@
 -- Signed 32-bit numbers as bits, and back. Assumes nothing.
 use mathlib.Core.Path.{◌≡◌, refl, ap, ◌∙◌}
-use Prim.Native.Nat.{ℕ, suc, ◌+◌, ◌-◌, ◌<◌, ◌≤◌}
+use Prim.Native.Nat.{ℕ, suc, ◌+◌, ◌-◌, ◌%◌, ◌<◌, ◌≤◌}
 use native.Mathlib.Omega.{arith}
 use borrow.Author.Tests.{le-ltb, lt-ltb}
 use lib.Dec.{ltb}
 use mathlib.Core.Bool.{Bool, true, false, cond}
-use lib.IntN.{ℤ, pos, negsuc}
+use lib.IntN.{ℤ, pos, negsuc, ◌+ℤ◌}
 use mir.Syntax.{w16, w32}
 use mir.Val.{SFits, of_z, to_z, sel}
 use Rattle.lists.specs.Bytes.{signed}
 use Rattle.paper.specs.File.{bits32, signed32}
 use Rattle.codec.specs.Words.{bits16}
+
+-- x and 2 ^ 32, which is not negative
+unfoldable pub raised : ℤ → ℕ
+raised (pos n) = n + 4294967296
+raised (negsuc n) = 4294967295 - n
+
+pub raised_is : (x : ℤ) → SFits w32 x → x +ℤ pos 4294967296 ≡ pos (raised x)
+unfolding raised
+raised_is (pos n) f = refl
+raised_is (negsuc n) f = rw (le-ltb 4294967296 (suc n) (omega (arith, f.sfits))) (ap pos (omega arith))
+
+pub raised_small : (x : ℤ) → SFits w32 x → raised x < 8589934592
+unfolding raised
+raised_small (pos n) f = omega (arith, f.sfits)
+raised_small (negsuc n) f = omega arith
+
+pub raised_bits : (x : ℤ) → SFits w32 x → raised x % 4294967296 ≡ bits32 x
+unfolding raised bits32
+raised_bits (pos n) f = omega (arith, f.sfits)
+raised_bits (negsuc n) f = omega arith
 
 -- the machine's bits of a signed number, and the signed number that its bits are
 pub halves_are : (x : ℤ) → of_z w16 x ≡ bits16 x

@@ -85,6 +85,9 @@ pub record Drawing (rule : Rule) (L : Lattice) (f : ℕ → List ℕ) (m first a
   pub draws : Draws rule L (each f (range 0 n)) first at before next after
 
 module _ (rule : Rule) (L : Lattice) (f : ℕ → List ℕ) (m first at : ℕ) where
+  pub drawing_none : (d : Drawn) → Drawing rule L f m first at 0 at d d
+  drawing_none d = record { upto = omega arith; draws = draws_none rule L first at d }
+
   module _ (n next : ℕ) (d e : Drawn) (D : Drawing rule L f m first at n next d e) where
     -- the slices are as long as before
     pub drawing_long : (length e.vertices ≡ length d.vertices) × (length e.slots ≡ length d.slots)
@@ -128,7 +131,13 @@ pub record Numbering (f : ℕ → List ℕ) (m at n next : ℕ) (before after : 
   pub numbers : Numbers (each f (range 0 n)) at before next after
 
 module _ (f : ℕ → List ℕ) (m at : ℕ) (l : List ℕ) where
+  pub numbering_none : Numbering f m at 0 at l l
+  numbering_none = record { upto = omega arith; numbers = record { slots = refl; next_is = omega arith } }
+
   module _ (n next : ℕ) (k : List ℕ) (N : Numbering f m at n next l k) where
+    pub numbering_long : length k ≡ length l
+    numbering_long = ap length N.numbers.slots ∙ numbered_length at (each f (range 0 n)) l
+
     -- the next number, and what it will be, are at most the last
     pub numbering_few : n < m → next + length (f n) ≤ at + length (each f (range 0 m))
     numbering_few h =

@@ -66,6 +66,15 @@ five l at a b c e₃ e₄ e₅ e₆ e₇ =
     (sets_next l at (at + 24) w₁ (corner_bytes c) (omega arith)
     (sets_next l at (at + 12) no_normal (corner_bytes a) refl e₃ e₄) e₅) e₆) e₇
 
+-- the normal's three numbers one by one
+pub seven : (l : List ℕ) {l₁ l₂ l₃ l₄ l₅ l₆ l₇ : List ℕ} (at : ℕ) (a b c : Corner)
+    → l₁ ≡ sets l at (le 4 0) → l₂ ≡ sets l₁ (at + 4) (le 4 0) → l₃ ≡ sets l₂ (at + 8) (le 4 0)
+    → l₄ ≡ sets l₃ (at + 12) (corner_bytes a) → l₅ ≡ sets l₄ (at + 24) (corner_bytes c) → l₆ ≡ sets l₅ (at + 36) (corner_bytes b)
+    → l₇ ≡ sets l₆ (at + 48) (le 2 0) → l₇ ≡ sets l at (facet_bytes a b c)
+seven l at a b c e₁ e₂ e₃ =
+    five l at a b c
+    (sets_next l at (at + 8) (le 4 0 ++ le 4 0) (le 4 0) refl (sets_next l at (at + 4) (le 4 0) (le 4 0) refl e₁ e₂) e₃)
+
 -- the coordinates of three corners, one after another
 pub nine : (l : List ℤ) {l₁ l₂ l₃ : List ℤ} (at : ℕ) (f : Facet)
     → l₁ ≡ sets l at (corner_words f.a)

@@ -3,9 +3,10 @@ use mathlib.Core.Path.{◌≡◌, refl, sym, subst, ap, ◌∙◌}
 use mathlib.Core.Bool.{Bool, true, false, not, cond, ◌&&◌, beq}
 use Prim.Native.Nat.{ℕ, zero, suc, ◌+◌, ◌-◌, ◌*◌, ◌%◌, ◌^◌, ◌≤◌, ◌<◌}
 use native.Mathlib.Omega.{arith}
-use borrow.Author.Tests.{le-leb, leb-true, le-ltb, eq-eqb, eqb-true, eqb-false}
+use borrow.Author.Tests.{le-leb, leb-true, le-ltb, eq-eqb, eqb-true, eqb-false, ltb-true}
 use lib.Dec.{T, leb, ltb, eqb}
 use lib.IntN.{ℤ, pos, negsuc}
+use lib.Signed.{le_z, lt_z}
 use lib.Ieee.{Float, nan, inf, fin, Format, binary32, prec, emax, low, up, down, fits, of_bits, to_bits, is_nan, nan_bits}
 use lib.Ieee.{add, sum, round, units, odd}
 use lib.Ieee.Bits.{of_bits-to_bits, to_bits-of_bits, of_bits-fits, nan_bits_is, nan_bits_above, is_true}
@@ -53,6 +54,16 @@ none_image x f never = go (is_image x) (image_is_float x f)
     go false k = refl
 
 -- ── a sheet's numbers ──
+
+pub bounds_low : (w : ℤ) → lt_z w (pos 0) ≡ true → false ≡ in_bounds w
+unfolding in_bounds
+bounds_low (pos n) e = absurd (omega (arith, ltb-true n 0 e))
+bounds_low (negsuc n) e = refl
+
+pub bounds_high : (w : ℤ) → lt_z w (pos 0) ≡ false → le_z w (pos 4128768) ≡ in_bounds w
+unfolding in_bounds
+bounds_high (pos n) e = refl
+bounds_high (negsuc n) e = absurd (subst T e tt)
 
 pub bounds_are : (w : ℤ) → in_bounds w ≡ true → (nat_of w ≤ 4128768) × (w ≡ pos (nat_of w))
 unfolding in_bounds nat_of

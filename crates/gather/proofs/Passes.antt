@@ -4,6 +4,7 @@ use mathlib.Core.Bool.{Bool, true, false, not, ◌&&◌}
 use mathlib.Core.List.{List, [], ◌∷◌, ◌++◌, append-nil}
 use Prim.Native.Nat.{ℕ, zero, suc, ◌+◌, ◌-◌, ◌*◌, ◌^◌, ◌≤◌, ◌<◌}
 use native.Mathlib.Numerals.{add-one}
+use native.Mathlib.Nat.{mul-add}
 use native.Mathlib.Omega.{arith}
 use lib.Dec.{T}
 use lib.IntN.{ℤ}
@@ -62,16 +63,32 @@ pub record Walk (z : Sizes) (rows may : List ℕ) (j k : ℕ) (before after : He
   pub same_waiting : length after.waiting ≡ length before.waiting
   pub same_list : length after.list ≡ length before.list
 
+pub walk_none : (z : Sizes) (rows may : List ℕ) (k : ℕ) (h : Held) (due : List ℕ) → Fit z rows may k h → Empty (words z) due
+    → Walk z rows may k k h h due due
+walk_none z rows may k h due f e = record {
+  leads = leads_none z rows may k h f;
+  empty = e;
+  same_vis = refl;
+  same_due = refl;
+  same_waiting = refl;
+  same_list = refl;
+}
+
 pub walk_more : (z : Sizes) (rows may : List ℕ) {i j k l : ℕ} {a b c : Held} {due₀ due₁ due : List ℕ} → Walk z rows may i j a b due₀ due₁
     → j ≡ k → Walk z rows may k l b c due₁ due → Walk z rows may i l a c due₀ due
 walk_more z rows may {i} {j} {k} {l} {a} {b} {c} w e m = record {
-  leads = leads_join z rows may i k l a b c (leads_at z rows may refl e w.leads) m.leads;
+  leads = leads_more z rows may w.leads e m.leads refl;
   empty = m.empty;
   same_vis = m.same_vis ∙ w.same_vis;
   same_due = m.same_due ∙ w.same_due;
   same_waiting = m.same_waiting ∙ w.same_waiting;
   same_list = m.same_list ∙ w.same_list;
 }
+
+pub walk_to : (z : Sizes) (rows may : List ℕ) {i j k l : ℕ} {a b : Held} {due₀ due : List ℕ} → i ≡ k → j ≡ l
+    → Walk z rows may i j a b due₀ due → Walk z rows may k l a b due₀ due
+walk_to z rows may {i} {j} {k} {l} {a} {b} {due₀} {due} e f w =
+    subst (λ (n : ℕ). Walk z rows may n l a b due₀ due) e (subst (λ (n : ℕ). Walk z rows may i n a b due₀ due) f w)
 
 -- ── one cube ──
 
@@ -201,6 +218,19 @@ cube_in_row z x y w = omega arith
 
 pub next_cube : (z : Sizes) (x y w : ℕ) → cube_no z (place x y w) + 1 ≡ row_start z y w + (x + 1)
 next_cube z x y w = omega (arith, cube_in_row z x y w)
+
+pub next_row : (z : Sizes) (y w : ℕ) → row_start z y w + (z.nx - 1) ≡ row_start z (y + 1) w
+next_row z y w =
+    let e : y + 1 + (z.ny - 1) * w ≡ y + (z.ny - 1) * w + 1 = omega arith in
+    sym (ap (λ (n : ℕ). (z.nx - 1) * n) e ∙ omega (arith, mul-add (z.nx - 1) (y + (z.ny - 1) * w) 1))
+
+pub next_layer : (z : Sizes) (w : ℕ) → row_start z (z.ny - 1) w ≡ row_start z 0 (w + 1)
+next_layer z w =
+    let e : z.ny - 1 + (z.ny - 1) * w ≡ 0 + (z.ny - 1) * (w + 1) = omega (arith, mul-add (z.ny - 1) w 1) in
+    ap (λ (n : ℕ). (z.nx - 1) * n) e
+
+pub first_cube : (z : Sizes) → 0 ≡ row_start z 0 0
+first_cube z = omega arith
 
 pub all_cubes : (z : Sizes) → row_start z 0 (z.nz - 1) ≡ cubes z
 unfolding cubes

@@ -8,7 +8,8 @@ use native.Mathlib.Omega.{arith}
 use borrow.Author.Tests.{eqb-true, eq-eqb, ne_eqb, not-false}
 use lib.Dec.{eqb}
 use lib.IntN.{ℤ}
-use lib.ListN.{length, get_or, take, drop, set}
+use lib.ListN.{length, get_or, take, drop, set, length-map}
+use lib.Seq.{take-length}
 use lib.Ieee.{Float, nan}
 use Rattle.lists.specs.Lists.{over}
 use Rattle.std.specs.Prelude.{Option, Some, None, MatchOption, unwrap_or}
@@ -37,6 +38,13 @@ module _ {A B : Type 0} (f : A → B) where
       ap (λ (l : List B). f x ∷ l) (store_more z i xs old (le_of_suc-le-suc h) (le_of_suc-le-suc k))
   store_more z i [] old h k = absurd (omega arith)
   store_more z i (x ∷ xs) [] h k = absurd (omega arith)
+
+  -- all are
+  pub store_all : (i : ℕ) (xs : List A) (old : List B) → i ≡ length xs → map f (take i xs) ++ drop i old ≡ over (map f xs) old
+  store_all i xs old e =
+      ap (λ (k : ℕ). map f (take k xs) ++ drop k old) e
+      ∙ ap (λ (l : List A). map f l ++ drop (length xs) old) (take-length xs)
+      ∙ ap (λ (k : ℕ). map f xs ++ drop k old) (sym (length-map xs f))
 
 -- ── the tests ──
 

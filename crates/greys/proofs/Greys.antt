@@ -5,7 +5,7 @@ use Prim.Native.Nat.{ℕ, ◌+◌, ◌*◌, ◌<◌}
 use native.Mathlib.Nat.{mul-one}
 use native.Mathlib.Omega.{arith}
 use native.Mathlib.Decide.{dec_lt}
-use borrow.Author.Tests.{lt-ltb, le-ltb, le-leb, lt-leb, eq-eqb, ne_eqb}
+use borrow.Author.Tests.{lt-ltb, le-ltb, le-leb, lt-leb, eq-eqb, ne_eqb, ltb-true, ltb-false}
 use lib.Dec.{ltb, leb, eqb}
 use lib.IntN.{ℤ, pos}
 use lib.Ieee.{Float, nan, inf, fin, up, down, lt, eq, le}
@@ -37,18 +37,37 @@ over_low : (m : ℕ) (e : ℤ) → le (fin true 1 (pos 16)) (fin false m e) ≡ 
 unfolding le lt eq
 over_low m e = rw (lt-ltb 0 (65536 * down e + m * up e * 1) (omega (arith, down_pos e)))
 
-pub too_low : (v : Float) → le (fin true 1 (pos 16)) v ≡ false → false ≡ is_grey v
+pub below_low : (v : Float) → le (fin true 1 (pos 16)) v ≡ false → false ≡ is_grey v
 unfolding le lt is_grey
+below_low nan h = refl
+below_low (inf s) h = refl
+below_low (fin false m e) h = absurd (true≢false (sym (over_low m e) ∙ h))
+below_low (fin true m e) h = sym h ∙ from_low m e
+
+pub from_low_on : (v : Float) → le (fin true 1 (pos 16)) v ≡ true → le v (fin false 1 (pos 16)) ≡ is_grey v
+unfolding le lt eq is_grey
+from_low_on nan h = refl
+from_low_on (inf false) h = refl
+from_low_on (inf true) h = absurd (false≢true h)
+from_low_on (fin false m e) h = rw (mul-one (m * up e)) (or_le (m * up e) (65536 * down e))
+from_low_on (fin true m e) h =
+    rw (lt-ltb 0 (m * up e * 1 + 65536 * down e) (omega (arith, down_pos e))) (sym h ∙ from_low m e)
+
+-- the same by the test whether it is below −65,536
+pub too_low : (v : Float) → lt v (fin true 1 (pos 16)) ≡ true → false ≡ is_grey v
+unfolding lt is_grey
 too_low nan h = refl
 too_low (inf s) h = refl
-too_low (fin false m e) h = absurd (true≢false (sym (over_low m e) ∙ h))
-too_low (fin true m e) h = sym h ∙ from_low m e
+too_low (fin false m e) h = absurd (false≢true h)
+too_low (fin true m e) h = let g = ltb-true (65536 * down e) (m * up e * 1) h in sym (lt-leb (m * up e) (65536 * down e) (omega arith))
 
-pub high_enough : (v : Float) → le (fin true 1 (pos 16)) v ≡ true → le v (fin false 1 (pos 16)) ≡ is_grey v
-unfolding le lt eq is_grey
+pub high_enough : (v : Float) → lt v (fin true 1 (pos 16)) ≡ false → le v (fin false 1 (pos 16)) ≡ is_grey v
+unfolding le lt is_grey
 high_enough nan h = refl
 high_enough (inf false) h = refl
-high_enough (inf true) h = absurd (false≢true h)
+high_enough (inf true) h = absurd (true≢false h)
 high_enough (fin false m e) h = rw (mul-one (m * up e)) (or_le (m * up e) (65536 * down e))
 high_enough (fin true m e) h =
-    rw (lt-ltb 0 (m * up e * 1 + 65536 * down e) (omega (arith, down_pos e))) (sym h ∙ from_low m e)
+    let g = ltb-false (65536 * down e) (m * up e * 1) h in
+    let d = down_pos e in
+    rw (lt-ltb 0 (m * up e * 1 + 65536 * down e) (omega arith), le-leb (m * up e) (65536 * down e) (omega arith))

@@ -6,6 +6,7 @@ pub mod Bounds
 pub mod Nearest
 pub mod Product
 pub mod Cut
+pub mod Least
 pub mod Converting
 pub mod Signs
 pub mod Promises

@@ -19,6 +19,9 @@ use Rattle.greys.proofs.Units.{Grain, grain, few_digits}
 pub scale_le : (n : ℕ) → Scale n → n ≤ 256
 scale_le n s = rw s.is (pow_mono {i = s.k} {j = 8} s.small)
 
+pub scale_pos : (n : ℕ) → Scale n → 0 < n
+scale_pos n s = rw s.is (pow_pos s.k)
+
 pub scale_casts : (n : ℕ) → Scale n → T (in_float binary32 (pos n))
 unfolding in_float
 scale_casts n s = let h = scale_le n s in le→leb n 16777216 (omega arith)

@@ -1,8 +1,9 @@
 -- What inner functions need, and what they give. Assumes nothing.
-use Rattle.std.specs.Prelude.{◌≡◌, true, false, List, ℕ, ◌*◌, ◌/◌, ◌^◌, ◌≤◌, ◌<◌, pos, length, get_or, Float}
+use Rattle.std.specs.Prelude.{◌≡◌, true, false, cond, List, ℕ, ◌*◌, ◌/◌, ◌^◌, ◌≤◌, ◌<◌, pos, length, get_or, Float}
 use Rattle.std.specs.Float.{nan, inf, fin}
-use Rattle.std.specs.Float.Ieee.{up, down}
+use Rattle.std.specs.Float.Ieee.{up, down, lt, neg}
 use Rattle.greys.specs.Level.{is_grey}
+use Rattle.greys.specs.Sample.{none}
 
 -- a scale by its power
 pub record Scale (n : ℕ) : Type 0 where
@@ -10,8 +11,16 @@ pub record Scale (n : ℕ) : Type 0 where
   pub small : k ≤ 8
   pub is : n ≡ 2 ^ k
 
+-- d without its sign
+unfoldable pub size_of : Float → Float
+size_of d = cond (lt d none) (neg d) d
+
 abbrev pub most : Float
 most = fin false 32767 (pos 0)
+
+-- x, and 32,767 where it is not below
+unfoldable pub at_most : Float → Float
+at_most x = cond (lt x most) x most
 
 -- a float from 0 to 32,767, minus zero among them, and its whole part
 abbrev pub Plain : Float → Type 0

@@ -21,6 +21,27 @@ edge_in k x j h =
     let d : (7 * x + j) / 7 ≡ x = omega arith in
     λ i. bit (get_or (seven k) (m i) 0) (d i)
 
+edge_of : (k : KindWords) (x j : ℕ) → j < 7 → weight (is_edge k (7 * x + j)) 1 ≡ weight (bit (get_or (seven k) j 0) x) 1
+edge_of k x j h = ap (λ (b : Bool). weight b 1) (edge_in k x j h)
+
+-- the kinds of anchor x, as the bits of a word
+pub anchor_word : (k : KindWords) (x : ℕ) → let w : ℕ → ℕ = λ j. get_or (seven k) j 0 in
+    weight (bit (w 0) x) 1 + 2 * weight (bit (w 1) x) 1 + 4 * weight (bit (w 2) x) 1 + 8 * weight (bit (w 3) x) 1
+    + 16 * weight (bit (w 4) x) 1 + 32 * weight (bit (w 5) x) 1 + 64 * weight (bit (w 6) x) 1
+    ≡ word (λ j. is_edge k (7 * x + j)) 7
+unfolding word
+anchor_word k x =
+    omega (
+      arith,
+      edge_of k x 0 (omega arith),
+      edge_of k x 1 (omega arith),
+      edge_of k x 2 (omega arith),
+      edge_of k x 3 (omega arith),
+      edge_of k x 4 (omega arith),
+      edge_of k x 5 (omega arith),
+      edge_of k x 6 (omega arith),
+    )
+
 -- one kind more
 word_more : (f : ℕ → Bool) (n : ℕ) → word f (n + 1) ≡ word f n + weight (f n) 1 * 2 ^ n
 unfolding word

@@ -117,9 +117,9 @@ pub counted_more : (k : KindWords) (n : ℕ) → counted k (n + 1) ≡ counted k
 unfolding counted
 counted_more k n = ap (total (λ j. ones (get_or (seven k) j 0))) (add-one n) ∙ total_more (λ j. ones (get_or (seven k) j 0)) n
 
-pub edges_count : (k : KindWords) → ((j : ℕ) → j < 7 → get_or (seven k) j 0 < 2 ^ 64) → counted k 7 ≡ count (is_edge k) (range 0 448)
+pub counted_all : (k : KindWords) → ((j : ℕ) → j < 7 → get_or (seven k) j 0 < 2 ^ 64) → counted k 7 ≡ count (is_edge k) (range 0 448)
 unfolding counted total is_edge
-edges_count k h =
+counted_all k h =
     let w = seven k in
     omega (
       arith,
@@ -131,4 +131,31 @@ edges_count k h =
       ones_bits (get_or w 4 0) 64 (h 4 (omega arith)),
       ones_bits (get_or w 5 0) 64 (h 5 (omega arith)),
       ones_bits (get_or w 6 0) 64 (h 6 (omega arith)),
+    )
+
+-- seven words that fit
+pub record Words (k : KindWords) : Type 0 where
+  pub k0 : get_or (seven k) 0 0 < 2 ^ 64
+  pub k1 : get_or (seven k) 1 0 < 2 ^ 64
+  pub k2 : get_or (seven k) 2 0 < 2 ^ 64
+  pub k3 : get_or (seven k) 3 0 < 2 ^ 64
+  pub k4 : get_or (seven k) 4 0 < 2 ^ 64
+  pub k5 : get_or (seven k) 5 0 < 2 ^ 64
+  pub k6 : get_or (seven k) 6 0 < 2 ^ 64
+
+pub edges_count : (k : KindWords) → Words k → let w : ℕ → ℕ = λ j. get_or (seven k) j 0 in
+    ones (w 0) + ones (w 1) + ones (w 2) + ones (w 3) + ones (w 4) + ones (w 5) + ones (w 6) ≡ count (is_edge k) (range 0 448)
+unfolding is_edge
+edges_count k h =
+    let w = seven k in
+    omega (
+      arith,
+      by_kinds (λ j x. bit (get_or w j 0) x) 64,
+      ones_bits (get_or w 0 0) 64 h.k0,
+      ones_bits (get_or w 1 0) 64 h.k1,
+      ones_bits (get_or w 2 0) 64 h.k2,
+      ones_bits (get_or w 3 0) 64 h.k3,
+      ones_bits (get_or w 4 0) 64 h.k4,
+      ones_bits (get_or w 5 0) 64 h.k5,
+      ones_bits (get_or w 6 0) 64 h.k6,
     )

@@ -14,7 +14,7 @@ use Rattle.paper.specs.declared.Verdict.{Verdict}
 use Rattle.paper.specs.Tests.{verdict, judge}
 use Rattle.paper.specs.Within.{Sized}
 use Rattle.paper.proofs.Judged.{Numbered, judge_all, both, sized}
-use Rattle.lister.specs.Listing.{listed_sizes, listable, listing_tests}
+use Rattle.lister.specs.Listing.{listed_sizes, listable, listing_tests, listing_number}
 
 -- bytes that pass: the sizes are sizes, the samples few, and the bytes as many as they take
 pub record Readable (bs : List ℕ) : Type 0 where
@@ -34,12 +34,17 @@ numbered : (bs : List ℕ) → Numbered (listing_tests bs)
 unfolding listing_tests
 numbered bs = (omega arith, (omega arith, (omega arith, (omega arith, tt))))
 
-pub readable : (bs : List ℕ) → verdict 0 0 ≡ judge (listing_tests bs) → Readable bs
-unfolding listing_tests
+pub readable : (bs : List ℕ) → listing_number bs ≡ 0 → Readable bs
+unfolding listing_tests listing_number
 readable bs e =
-    let p = judge_all (listing_tests bs) (numbered bs) (ap (λ (v : Verdict). v.number) (sym e)) in
+    let p = judge_all (listing_tests bs) (numbered bs) e in
     record {
       sized = sized (listed_sizes bs) p.1.0;
       few = few_samples (listed_sizes bs) p.1.1.0;
       long = eqb-true (length bs) (6 + 2 * samples (listed_sizes bs)) p.1.1.1.0;
     }
+
+-- by what the tests answer
+pub readable_ok : (bs : List ℕ) → verdict 0 0 ≡ judge (listing_tests bs) → Readable bs
+unfolding listing_number
+readable_ok bs e = readable bs (ap (λ (v : Verdict). v.number) (sym e))

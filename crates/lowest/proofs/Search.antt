@@ -147,6 +147,11 @@ pub record Seeking (off : Bool) (z : Sizes) (rows may : List ℕ) (found : Optio
   pub none : found ≡ None
   pub clear : Clear off z rows may k
 
+-- nothing is found, and no bit of m below x is set
+pub record Looking (m : ℕ) (found : Option ℕ) (x : ℕ) : Type 0 where
+  pub none : found ≡ None
+  pub clear : (i : ℕ) → i < x → bit m i ≡ false
+
 -- ── what that says of the lattice ──
 
 module _ (off : Bool) (L : Lattice) (rows may : List ℕ) (s : Sized L.size) (h : HasBoth L rows may) where

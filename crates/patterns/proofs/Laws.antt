@@ -158,7 +158,7 @@ module _ (z : Sizes) (P : ℕ → Type 0) (h : (t j : ℕ) → t < 6 → j < 6 �
       (in_all _ (range 0 6) (λ t i. row_all t (row_by m t) (omega (arith, range_in 0 6 t i)) (row_small m t))))
 
 -- and they are small
-steps_small : (z : Sizes) → Sized z → Small (row_steps z)
+pub steps_small : (z : Sizes) → Sized z → Small (row_steps z)
 steps_small z s = record {
   below = λ i h.
       let t = i / 96 in
@@ -203,7 +203,7 @@ module _ (f : ℕ → List ℕ) (le : (m : ℕ) → length (f m) ≤ 36) (m : �
   fits : 36 * m + length (f m) ≤ length table
   fits = omega (arith, le m, T.table_fit)
 
-  tabled_more : (end : ℕ) → end ≡ 36 * m + length (f m) → Tabled f (m + 1) (sets table (36 * m) (f m)) (set counts m (end - 36 * m))
+  pub tabled_more : (end : ℕ) → end ≡ 36 * m + length (f m) → Tabled f (m + 1) (sets table (36 * m) (f m)) (set counts m (end - 36 * m))
   tabled_more end e = record {
     table_fit = omega (arith, length-sets table (36 * m) (f m), T.table_fit);
     counts_fit = omega (arith, length-set counts m (end - 36 * m), T.counts_fit);
@@ -229,6 +229,12 @@ module _ (f : ℕ → List ℕ) (le : (m : ℕ) → length (f m) ≤ 36) (m : �
 pub record Filling (s : List ℕ) (m : ℕ) (table counts : List ℕ) : Type 0 where
   pub upto : m ≤ 256
   pub tabled : Tabled (pattern_from s) m table counts
+
+pub filling_none : (s table counts : List ℕ) → 9216 ≤ length table → 256 ≤ length counts → Filling s 0 table counts
+filling_none s table counts a b = record {
+  upto = omega arith;
+  tabled = record { table_fit = a; counts_fit = b; count = λ k l. absurd (omega arith); at = λ k i l g. absurd (omega arith) };
+}
 
 pub filling_more : (s : List ℕ) (m end : ℕ) (table counts : List ℕ) → Filling s m table counts → m < 256
     → end ≡ 36 * m + length (pattern_from s m)

@@ -8,7 +8,7 @@ use native.Mathlib.Omega.{arith}
 use lib.Dec.{leb}
 use lib.IntN.{ℤ}
 use lib.ListN.{length, take, drop}
-use lib.Seq.{sets, take-append_seam}
+use lib.Seq.{sets, length-take-le, take-append_seam}
 use borrow.Author.Tests.{ne_eqb, le-leb}
 use Rattle.lists.specs.Lists.{over, cleared, Beyond}
 use Rattle.lists.proofs.Stores.{sets_front, beyond_refl, clear_beyond}
@@ -136,9 +136,8 @@ module _ (z : Sizes) (s : Sized z) (rows may vis waiting slots : List ℕ) (none
             }
 
       -- some pieces
-      module _ (some : h.count ≡ 0 → ⊥) (cube_words list list' : List ℕ) (r : Result ℕ FindError)
-          (is : let m = length (take h.count h.list) in r ≡ cond (leb m (length list)) (Ok m) (Err (ListRoom m)))
-          (put : list' ≡ output_after (found_told r).number (take h.count h.list) list) (w : Work)
+      module _ (some : h.count ≡ 0 → ⊥) (cube_words list list' : List ℕ) (r : ℕ) (is : r ≡ cond (leb h.count (length list)) 0 20)
+          (put : list' ≡ output_after r (take h.count h.list) list) (w : Work)
           (clear : w ≡ clean z (work cube_words h.waiting h.list)) where
         abbrev before : Lent
         before = lent list (work cube_words waiting slots)
@@ -150,58 +149,72 @@ module _ (z : Sizes) (s : Sized z) (rows may vis waiting slots : List ℕ) (none
             ∙ (ap (take (length (plain_scan L))) (sets_front slots (plain_scan L) fits)
             ∙ take-append_seam (plain_scan L) (drop (length (plain_scan L)) slots))
 
-        abbrev found : ℕ → Bool → Found
-        found N fits = record { number = cond fits 0 20; pieces = N }
-
-        -- 0 and 20 tell how many, and clear
-        told : let N = length (plain_scan L) in found_told r ≡ found N (leb N (length list))
-        told =
-            ap found_told (is ∙ ap (λ (l : List ℕ). cond (leb (length l) (length list)) (Ok (length l)) (Err (ListRoom (length l)))) taken)
-            ∙ go (length (plain_scan L)) (leb (length (plain_scan L)) (length list))
-          where
-            go : (N : ℕ) (b : Bool) → found_told (cond b (Ok N) (Err (ListRoom N))) ≡ found N b
-            go N true = refl
-            go N false = refl
-
-        number_is : (found_told r).number ≡ (judge (piece_tests (length (plain_scan L)) (length list))).number
+        number_is : r ≡ (judge (piece_tests (length (plain_scan L)) (length list))).number
         unfolding piece_tests
         number_is =
             let N = length (plain_scan L) in
             let fits = leb N (length list) in
-            ap (λ (f : Found). f.number) told
+            is
+            ∙ ((λ i. cond (leb (count_is i) (length list)) 0 20)
             ∙ sym (ap (λ (b : Bool). (cond b (cond fits (verdict 0 0) (verdict 20 0)) (verdict 5 0)).number)
-            (le-leb 1 N (omega (arith, count_is))) ∙ inner fits)
+            (le-leb 1 N (omega (arith, count_is))) ∙ inner fits))
           where
             inner : (b : Bool) → (cond b (verdict 0 0) (verdict 20 0)).number ≡ cond b 0 20
             inner true = refl
             inner false = refl
 
-        both : (P : ℕ → Type 0) → P 0 → P 20 → P (found_told r).number
-        both P p q = subst P (sym (ap (λ (f : Found). f.number) told)) (go (leb (length (plain_scan L)) (length list)))
+        -- 0 and 20 tell how many, and clear
+        both : (P : ℕ → Type 0) → P 0 → P 20 → P r
+        both P p q = subst P (sym is) (go (leb h.count (length list)))
           where
             go : (b : Bool) → P (cond b 0 20)
             go true = p
             go false = q
 
-        pub finds_some : FindsPast L before (found_told r) (lent list' w)
+        pub finds_some : FindsPast L before (record { number = r; pieces = h.count }) (lent list' w)
         finds_some =
             let N = length (plain_scan L) in
-            let n = (found_told r).number in
-            let tells_n : tells n ≡ true = both (λ n. tells n ≡ true) refl refl in
-            let clear_n : clears (as_building n) ≡ true = both (λ n. clears (as_building n) ≡ true) refl refl in
-            let a : found_told r ≡ found_at n N =
-            λ i. record { number = n; pieces = (ap (λ (f : Found). f.pieces) told ∙ sym (ap (λ (b : Bool). cond b N 0) tells_n)) i } in
-            let l : list' ≡ output_after n (plain_scan L) list = put ∙ ap (λ (m : List ℕ). output_after n m list) taken in
+            let told : tells r ≡ true = both (λ n. tells n ≡ true) refl refl in
+            let clear_r : clears (as_building r) ≡ true = both (λ n. clears (as_building n) ≡ true) refl refl in
+            let a : ◌≡◌ {A = Found} (record { number = r; pieces = h.count }) (found_at r N) =
+            λ i. record { number = r; pieces = (count_is ∙ sym (ap (λ (b : Bool). cond b N 0) told)) i } in
+            let l : list' ≡ output_after r (plain_scan L) list = put ∙ ap (λ (m : List ℕ). output_after r m list) taken in
             let q = clear_beyond (needed z) waiting h.waiting on_waiting in
             let t = clear_beyond (needed_slots z) slots h.list on_slots in
-            let c : w ≡ work_after (as_building n) z (work cube_words waiting slots) =
+            let c : w ≡ work_after (as_building r) z (work cube_words waiting slots) =
             clear
             ∙ ((λ i. work (cleared (needed z) cube_words) (q i) (t i))
-            ∙ sym (work_cleared (as_building n) z (work cube_words waiting slots) clear_n)) in
+            ∙ sym (work_cleared (as_building r) z (work cube_words waiting slots) clear_r)) in
             record {
               answer = a ∙ ap (λ (k : ℕ). found_at k N) number_is;
               left = (λ i. lent (l i) (c i)) ∙ ap (λ (k : ℕ). left_at k L before) number_is;
             }
+
+      -- by the answer of what lists them
+      module _ (some : h.count ≡ 0 → ⊥) (cube_words list list' : List ℕ) (r : Result ℕ FindError)
+          (is : let m = length (take h.count h.list) in r ≡ cond (leb m (length list)) (Ok m) (Err (ListRoom m)))
+          (put : list' ≡ output_after (found_told r).number (take h.count h.list) list) (w : Work)
+          (clear : w ≡ clean z (work cube_words h.waiting h.list)) where
+        abbrev number : ℕ
+        number = cond (leb h.count (length list)) 0 20
+
+        long : length (take h.count h.list) ≡ h.count
+        long = length-take-le h.count h.list (omega (arith, count_few, passed.on_list.same_length))
+
+        told : ◌≡◌ {A = Found} (found_told r) (record { number = number; pieces = h.count })
+        told =
+            ap found_told (is ∙ (λ i. cond (leb (long i) (length list)) (Ok (long i)) (Err (ListRoom (long i)))))
+            ∙ go (leb h.count (length list))
+          where
+            go : (b : Bool) → ◌≡◌ {A = Found} (found_told (cond b (Ok h.count) (Err (ListRoom h.count)))) (record { number = cond b 0 20; pieces = h.count })
+            go true = refl
+            go false = refl
+
+        pub finds_told : FindsPast L (lent list (work cube_words waiting slots)) (found_told r) (lent list' w)
+        finds_told =
+            let p = put ∙ ap (λ (f : Found). output_after f.number (take h.count h.list) list) told in
+            subst (λ (f : Found). FindsPast L (lent list (work cube_words waiting slots)) f (lent list' w)) (sym told)
+            (finds_some some cube_words list list' number refl p w clear)
 
 -- ── tests 1 to 3 ──
 
@@ -213,7 +226,7 @@ module _ (L : Lattice) (l : Lent) where
   rest = piece_tests (length (plain_scan L)) (length l.list)
 
   -- a refusal of the shape touches nothing
-  refused : (r : ℕ) → r ≡ (judge shape).number → (r ≡ 0 → ⊥) → Finds L l (record { number = r; pieces = 0 }) l
+  pub refused : (r : ℕ) → r ≡ (judge shape).number → (r ≡ 0 → ⊥) → Finds L l (record { number = r; pieces = 0 }) l
   unfolding find_number found_in lent_after output_after shape_tests
   refused r e h =
       let no : (judge shape).number ≡ 0 → ⊥ = λ q. h (e ∙ q) in

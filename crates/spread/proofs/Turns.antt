@@ -111,11 +111,11 @@ module _ (z : Sizes) (rows may : List ℕ) (q x : ℕ) where
         abbrev popped : Flow
         popped = flow (set due at 0) w i
 
-        at_roomy : Roomy (words z) (rows_of z) (is_row z) popped
+        pub at_roomy : Roomy (words z) (rows_of z) (is_row z) popped
         at_roomy =
             turn_roomy P (Reaches vis₀) G q x vis₀ due₀ w₀ vis due w h i seen hx e u full l F'
 
-        seen_le : seen + ones new ≤ 262144
+        pub seen_le : seen + ones new ≤ 262144
         seen_le =
             omega (
               arith,
@@ -128,11 +128,11 @@ module _ (z : Sizes) (rows may : List ℕ) (q x : ℕ) where
           s' : t ≡ sends grown (door_at z rows may at) (beside_at z rows at) new 4 popped
           s' = s ∙ ap (λ (f : Quad). sends grown (door_by z may f at) (beside_by z f at) new 4 popped) is
 
-          less_left : 5 * (64 * words z - lit (words z) grown) + t.height < 5 * (64 * words z - lit (words z) vis) + h
+          pub less_left : 5 * (64 * words z - lit (words z) grown) + t.height < 5 * (64 * words z - lit (words z) vis) + h
           less_left =
               turn_less P (Reaches vis₀) G q x vis₀ due₀ w₀ vis due w h i seen hx e u full l F' t s'
 
-          flooding_more : (k : ℕ) → k ≡ ones new → Flooding vis₀ due₀ w₀ grown t (seen + k)
+          pub flooding_more : (k : ℕ) → k ≡ ones new → Flooding vis₀ due₀ w₀ grown t (seen + k)
           flooding_more k c =
               rw c
               (turn P (Reaches vis₀) G q x vis₀ due₀ w₀ vis due w h i seen hx e u full l F' t s')

@@ -65,6 +65,11 @@ module _ (nv nt : ℕ) (vs : List ℤ) (ts : List ℕ) where
   write_numbered room = (omega arith, (omega arith, (omega arith, (omega arith, tt))))
 
   module _ (before : List ℕ) (v : Verdict) (is : v ≡ stl_write_verdict nv nt vs ts (length before)) where
+    pub write_refused : (v.number ≡ 0 → ⊥)
+        → StlWrites nv nt vs ts before (record { number = v.number; place = v.place; bytes = 0 }) before
+    unfolding stl_wrote output_after
+    write_refused h = record { answer = rw (← is, ne_eqb v.number 0 h); left = rw (← is, ne_eqb v.number 0 h) }
+
     module _ (h : v.number ≡ 0) where
       passed : (judge (write_tests (length before))).number ≡ 0
       passed = ap (λ (w : Verdict). w.number) (sym (write_tests_law (length before)) ∙ sym is) ∙ h
@@ -83,18 +88,20 @@ module _ (nv nt : ℕ) (vs : List ℤ) (ts : List ℕ) where
       pub write_none : stl_write_verdict nv nt vs ts (length before) ≡ verdict 0 0
       write_none = write_tests_law (length before) ∙ judge_none (write_tests (length before)) (write_numbered (length before)) passed
 
-  module _ (before : List ℕ) where
-    pub write_refused : (e : Refusal) → verdict_of e ≡ stl_write_verdict nv nt vs ts (length before)
-        → StlWrites nv nt vs ts before (wrote_told (Err e)) before
-    unfolding stl_wrote output_after
-    write_refused e is =
-        let n = ne_eqb (verdict_of e).number 0 (λ h. absurd (omega (arith, some_number e))) in
-        record { answer = rw (← is, n); left = rw (← is, n) }
+      pub write_done : (after : List ℕ) → after ≡ over (stl_bytes nt vs ts) before
+          → StlWrites nv nt vs ts before (record { number = 0; place = 0; bytes = 84 + 50 * nt }) after
+      unfolding stl_wrote output_after
+      write_done after e = record { answer = rw write_none; left = rw write_none e }
 
-    pub write_done : verdict 0 0 ≡ stl_write_verdict nv nt vs ts (length before) → (n : ℕ) → n ≡ stl_length nt
+  -- by a writer's answer
+  module _ (before : List ℕ) where
+    pub write_err : (e : Refusal) → verdict_of e ≡ stl_write_verdict nv nt vs ts (length before) → StlWrites nv nt vs ts before (wrote_told (Err e)) before
+    write_err e is = write_refused before (verdict_of e) is (λ h. absurd (omega (arith, some_number e)))
+
+    pub write_ok : verdict 0 0 ≡ stl_write_verdict nv nt vs ts (length before) → (n : ℕ) → n ≡ stl_length nt
         → (after : List ℕ) → after ≡ over (stl_bytes nt vs ts) before → StlWrites nv nt vs ts before (wrote_told (Ok n)) after
-    unfolding stl_wrote output_after
-    write_done is n l after e = record { answer = rw (← is, l); left = rw (← is) e }
+    unfolding stl_length
+    write_ok is n l after e = rw l (write_done before (verdict 0 0) is refl after e)
 
 -- ── reading ──
 
@@ -134,6 +141,10 @@ module _ (bs : List ℕ) where
       )
 
   module _ (before : List ℤ) (v : Verdict) (is : v ≡ stl_read_verdict bs (length before)) where
+    pub read_refused : (v.number ≡ 0 → ⊥) → StlReads bs before (record { number = v.number; place = v.place; facets = 0 }) before
+    unfolding stl_loaded output_after
+    read_refused h = record { answer = rw (← is, ne_eqb v.number 0 h); left = rw (← is, ne_eqb v.number 0 h) }
+
     module _ (h : v.number ≡ 0) where
       pub sound : Sound bs (length before)
       sound =
@@ -149,19 +160,21 @@ module _ (bs : List ℕ) where
             roomy = leb-true _ _ a.1.1.0;
           }
 
-  module _ (before : List ℤ) where
-    pub read_refused : (e : Refusal) → verdict_of e ≡ stl_read_verdict bs (length before) → StlReads bs before (loaded_told (Err e)) before
-    unfolding stl_loaded output_after
-    read_refused e is =
-        let n = ne_eqb (verdict_of e).number 0 (λ h. absurd (omega (arith, some_number e))) in
-        record { answer = rw (← is, n); left = rw (← is, n) }
+      pub read_done : (n : ℕ) (after : List ℤ) → n ≡ stl_count bs → after ≡ sets before 0 (each (nine_at bs) (range 0 n))
+          → StlReads bs before (record { number = 0; place = 0; facets = n }) after
+      unfolding stl_loaded output_after stl_words
+      read_done n after e f =
+          let z = sound_verdict (length before) sound in
+          record {
+            answer = rw (z, e);
+            left = rw z (f ∙ rw e (sets_front before (stl_words bs) (omega (arith, words_long, sound.roomy))));
+          }
 
-    pub read_done : verdict 0 0 ≡ stl_read_verdict bs (length before) → (n : ℕ) (after : List ℤ) → n ≡ stl_count bs
+  -- by a reader's answer
+  module _ (before : List ℤ) where
+    pub read_err : (e : Refusal) → verdict_of e ≡ stl_read_verdict bs (length before) → StlReads bs before (loaded_told (Err e)) before
+    read_err e is = read_refused before (verdict_of e) is (λ h. absurd (omega (arith, some_number e)))
+
+    pub read_ok : verdict 0 0 ≡ stl_read_verdict bs (length before) → (n : ℕ) (after : List ℤ) → n ≡ stl_count bs
         → after ≡ sets before 0 (each (nine_at bs) (range 0 n)) → StlReads bs before (loaded_told (Ok n)) after
-    unfolding stl_loaded output_after stl_words
-    read_done is n after e f =
-        let s = sound before (verdict 0 0) is refl in
-        record {
-          answer = rw (← is, e);
-          left = rw (← is) (f ∙ rw e (sets_front before (stl_words bs) (omega (arith, words_long, s.roomy))));
-        }
+    read_ok is = read_done before (verdict 0 0) is refl

@@ -20,7 +20,7 @@ use Rattle.lattice.specs.Steps.{corner_step}
 use Rattle.lattice.proofs.Laws.{corner_no, floor_few}
 use Rattle.sides.specs.Pattern.{pattern_at, bit_of}
 use Rattle.sides.proofs.Laws.{pattern_bit}
-use Rattle.tetra.specs.Cut.{tet_at, tet_corner, tet_ends, row_by, edge_step, tet_step}
+use Rattle.tetra.specs.Cut.{tet_at, tet_corner, tet_corners, tet_ends, row_by, edge_step, tet_step}
 use Rattle.tetra.specs.Cut.{tet_steps, row_count, row_edge, row_steps, row_triangles, triangles_by}
 use Rattle.tetra.proofs.Tables.{tet_corner_lt, low_lt}
 
@@ -44,6 +44,10 @@ tet_step_small z s t j ht hj = omega (arith, corner_small z s (low (tet_ends t j
 -- an entry of a list that goes by two numbers
 at_pair : (f : ℕ → ℕ → ℕ) (g h : ℕ → ℕ) (n k a b : ℕ) → k < n → g k ≡ a → h k ≡ b → get_or (map (λ i. f (g i) (h i)) (range 0 n)) k 0 ≡ f a b
 at_pair f g h n k a b l p q = at_along (λ i. f (g i) (h i)) 0 n k l ∙ (λ i. f (p i) (q i))
+
+pub corner_at_law : (t j : ℕ) → t < 6 → j < 4 → get_or tet_corners (4 * t + j) 0 ≡ tet_corner t j
+unfolding tet_corners
+corner_at_law t j ht hj = at_pair tet_corner (λ i. i / 4) (λ i. i % 4) 24 (4 * t + j) t j (omega arith) (omega arith) (omega arith)
 
 pub step_at : (z : Sizes) (t j : ℕ) → t < 6 → j < 6 → get_or (tet_steps z) (6 * t + j) 0 ≡ tet_step z t j
 unfolding tet_steps

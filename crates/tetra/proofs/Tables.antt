@@ -16,10 +16,10 @@ use Rattle.tetra.specs.declared.TheConstants.{TETS, ROWS, COUNTS, LOWS, KINDS}
 use Rattle.tetra.specs.Cut.{tet_at, tet_corner, tet_ends, row_count, row_edge, row_triangles}
 
 -- the entries of a table are f's
-unfoldable tabled : (ℕ → ℕ → ℕ) → ℕ → ℕ → List (List ℕ) → Bool
+unfoldable pub tabled : (ℕ → ℕ → ℕ) → ℕ → ℕ → List (List ℕ) → Bool
 tabled f m n l = grid m n (λ i j. eqb (get_or (get_or l i []) j 0) (f i j))
 
-tabled_at : (f : ℕ → ℕ → ℕ) (m n : ℕ) (l : List (List ℕ)) → T (tabled f m n l)
+pub tabled_at : (f : ℕ → ℕ → ℕ) (m n : ℕ) (l : List (List ℕ)) → T (tabled f m n l)
     → (i j : ℕ) → i < m → j < n → get_or (get_or l i []) j 0 ≡ f i j
 unfolding tabled
 tabled_at f m n l t i j hi hj = eqb→eq _ _ (grid_at m n (λ i j. eqb (get_or (get_or l i []) j 0) (f i j)) t i j hi hj)

@@ -19,6 +19,10 @@ tet_at t = get_or tets t (tet 0 0 0 0)
 unfoldable pub tet_corner : ℕ → ℕ → ℕ
 tet_corner t j = get_or ((tet_at t).a ∷ (tet_at t).b ∷ (tet_at t).c ∷ (tet_at t).d ∷ []) j 0
 
+-- the corners of all, four to a tetrahedron
+unfoldable pub tet_corners : List ℕ
+tet_corners = map (λ i. tet_corner (i / 4) (i % 4)) (range 0 24)
+
 unfoldable pub tet_ends : ℕ → ℕ → Ends
 tet_ends t j = get_or (tet_edges (tet_at t)) j (ends 0 0)
 

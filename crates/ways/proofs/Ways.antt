@@ -22,11 +22,25 @@ use Rattle.paper.specs.Lattice.{cubes}
 use Rattle.paper.specs.Room.{needed}
 use Rattle.paper.specs.Within.{Sized}
 use Rattle.rows.specs.declared.Quad.{Quad}
+use Rattle.rows.specs.Rows.{face_row}
 use Rattle.ways.specs.declared.Out.{Out}
 use Rattle.bits.specs.Words.{less}
 use Rattle.ways.specs.Flow.{Flow, wait}
 use Rattle.ways.proofs.Laws.{wait_none}
-use Rattle.ways.specs.Ways.{is_way, next_row, no_way, beside_by, words, rows_of, is_row, RowIn}
+use Rattle.ways.specs.Ways.{is_way, next_row, no_way, way_by, way_at, beside_by, words, rows_of, is_row, RowIn}
+
+module _ (there : Bool) (to r door : ℕ) where
+  pub way_on : there ≡ true → ◌≡◌ {A = Out} (record { to = to; door = door }) (way_by there to r door)
+  way_on e = ap (λ (b : Bool). way_by b to r door) (sym e)
+
+  pub way_off : there ≡ false → ◌≡◌ {A = Out} (record { to = r; door = 0 }) (way_by there to r door)
+  way_off e = ap (λ (b : Bool). way_by b to r door) (sym e)
+
+-- by the number of the door
+pub way_at_law : (z : Sizes) (q : Quad) (r : ℕ) {k j m : ℕ} {w : Out} → w ≡ way_by (is_way z r j) (next_row z r j) r m → m ≡ face_row q (k + 2)
+    → k ≡ j
+    → w ≡ way_at z q r k
+way_at_law z q r e f d = e ∙ (λ i. way_by (is_way z r (sym d i)) (next_row z r (sym d i)) r (f i))
 
 -- a send by a way
 pub by_way : (vis may : List ℕ) (f : ℕ) (t : Flow) {u : Flow} {v w : Out} → u
@@ -134,6 +148,14 @@ module _ (z : Sizes) where
           word_lt z.ny z.nz y w _ (omega arith) (omega arith) e
 
 -- ── what the ways ask ──
+
+pub low_y : (z : Sizes) (r : ℕ) → ltb 0 (r % z.ny) ≡ true → 1 ≤ r
+low_y z r e = omega (arith, ltb-true 0 (r % z.ny) e, div-add-mod' r z.ny)
+
+pub low_z : (z : Sizes) (r : ℕ) → ltb 0 (r / z.ny) ≡ true → z.ny ≤ r
+low_z z r e =
+    let h : 1 ≤ r / z.ny = ltb-true 0 (r / z.ny) e in
+    omega (arith, mul-le-mul_right z.ny h, div-add-mod' r z.ny)
 
 pub words_le : (z : Sizes) → Sized z → words z ≤ 4096
 words_le z s = mul-le-mul {n₂ = 64} {m₂ = 64} s.y_high s.z_high

@@ -7,7 +7,7 @@ use Rattle.paper.specs.Lattice.{Lattice, lattice}
 use Rattle.paper.proofs.Visits.{crossed_visitable}
 use Rattle.spread.proofs.Joining.{fresh}
 use Rattle.build_output.specs.Output.{Output, output, Puts}
-use Rattle.build_output.proofs.Output.{fits, builds_from}
+use Rattle.build_output.proofs.Output.{build_fits, build_done}
 use Rattle.build_past.proofs.build_from.Goals as goal
 use Rattle.build_past.proofs.build_from.Goals.{Start}
 
@@ -28,7 +28,7 @@ put_sheet-requires-clause-standing c =
 pub put_sheet-requires-clause-fits : goal.put_sheet-requires-clause-fits
 put_sheet-requires-clause-fits c z =
     let n = c.counts_of-counts.result in
-    fits (L (goal.at.put_sheet-requires-clause-fits c).Start) _ _ (record { vertices = n.vertices; triangles = n.triangles; cubes = c.visit-cubes.result })
+    build_fits (L (goal.at.put_sheet-requires-clause-fits c).Start) _ _ (record { vertices = n.vertices; triangles = n.triangles; cubes = c.visit-cubes.result })
     c.counts_of-counts.ensures _ _ (sym (ap (λ (b : Built). b.number) c.with_room-built.ensures) ∙ z)
 
 -- what is written, by an equal number
@@ -43,5 +43,5 @@ returns c =
     let t = crossed_visitable (L (goal.at.returns c).Start) c.args.k c.requires.2 in
     let e = c.with_room-built.ensures in
     let same = moved put.0 (ap (λ (b : Built). b.number) e) in
-    builds_from (L (goal.at.returns c).Start) _ _ _ c.counts_of-counts.ensures c.args.k (found.stands _ h t) _ (found.number _ h t) _ e (output _ _) same
+    build_done (L (goal.at.returns c).Start) _ _ _ c.counts_of-counts.ensures c.args.k (found.stands _ h t) _ (found.number _ h t) _ e (output _ _) same
     _ _ found.beyond put.1 _ c.clear_work.ensures

@@ -6,7 +6,7 @@ use Rattle.paper.specs.declared.Sizes.{Sizes}
 use Rattle.tetra.specs.Cut.{tri_of}
 use Rattle.check_triangles.specs.Words.{words_by}
 use Rattle.check_triangles.specs.Triples.{place_from, Based}
-use Rattle.check_triangles.proofs.Laws.{base_few, near_found}
+use Rattle.check_triangles.proofs.Laws.{base_few, spot_found}
 use Rattle.check_triangles.proofs.find.Goals as goal
 use Rattle.check_triangles.proofs.find.Goals.{In-Some}
 
@@ -26,6 +26,6 @@ returns-in-Some-place_from c =
     let at = c.in-Some.at in
     let t = tri_of c.args.t in
     let p = c.in-Some-place_from.ensures in
-    near_found w.sizes (words_by w.sizes w.sides.now w.cubes.now) t at (at.place + 1) c.in-Some-place_from.place c.requires.words.0
+    spot_found w.sizes (words_by w.sizes w.sides.now w.cubes.now) t at (at.place + 1) c.in-Some-place_from.place c.requires.words.0
     (based (goal.at.returns-in-Some-place_from c).In-Some)
     (ap (λ (z : Sizes). place_from z at.base at.pattern t (at.place + 1)) (sym c.requires.sized.0) ∙ p.0) p.1

@@ -3,7 +3,7 @@ use Rattle.std.proofs.Common.{◌≡◌, ◌*◌, ◌≤◌, length, Err, refl, 
 use Rattle.std.proofs.lemmas.List.{length-take-le}
 use Rattle.paper.specs.Tests.{verdict}
 use Rattle.sheetfile.specs.Taken.{Room}
-use Rattle.sheetfile.proofs.Answers.{readable_laid, read_refused, read_done}
+use Rattle.sheetfile.proofs.Answers.{readable_laid, read_err, read_ok}
 use Rattle.file_reader.proofs.read.Goals as goal
 use Rattle.file_reader.proofs.read.Goals.{In_ok-readable, After-new-file}
 
@@ -28,7 +28,7 @@ pub returns-in_err-readable : goal.returns-in_err-readable
 returns-in_err-readable c =
     let a = c.args in
     let e : c.from_residual.result ≡ Err c.in_err-readable.field-0.0 = search rules in
-    rw e (read_refused a.bytes.now a.vertices.now a.triangles.now _ c.in_err-readable.ensures)
+    rw e (read_err a.bytes.now a.vertices.now a.triangles.now _ c.in_err-readable.ensures)
 
 pub new-file-requires : goal.new-file-requires
 new-file-requires c = (room (goal.at.new-file-requires c).In_ok-readable).laid.ranged
@@ -58,4 +58,4 @@ returns c =
     let t = rw lt at c.get_all-2.ensures in
     let ev = rw c.new-file.ensures at f.counted_v in
     let et = rw c.new-file.ensures at f.counted_t in
-    read_done bs a.vertices.now a.triangles.now c.in_ok-readable.ensures _ _ _ _ _ ev et c.sizes_of.ensures v t
+    read_ok bs a.vertices.now a.triangles.now c.in_ok-readable.ensures _ _ _ _ _ ev et c.sizes_of.ensures v t

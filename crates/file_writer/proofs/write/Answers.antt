@@ -2,7 +2,7 @@
 use Rattle.std.proofs.Common.{◌≡◌, arith, sym, ap, length, rules, Err}
 use Rattle.paper.specs.declared.Verdict.{Verdict}
 use Rattle.sheetfile.specs.Taken.{Taken}
-use Rattle.sheetfile.proofs.Answers.{taken, write_refused, write_done}
+use Rattle.sheetfile.proofs.Answers.{taken, write_err, write_ok}
 use Rattle.file_writer.proofs.write.Goals as goal
 use Rattle.file_writer.proofs.write.Goals.{In_ok-writable}
 
@@ -15,7 +15,7 @@ pub returns-in_err-writable : goal.returns-in_err-writable
 returns-in_err-writable c =
     let a = c.args in
     let e : c.from_residual.result ≡ Err c.in_err-writable.field-0.0 = search rules in
-    rw e (write_refused a.sizes a.nv a.nt a.vertices.now a.triangles.now a.bytes.now _ c.in_err-writable.ensures)
+    rw e (write_err a.sizes a.nv a.nt a.vertices.now a.triangles.now a.bytes.now _ c.in_err-writable.ensures)
 
 pub put_file-requires : goal.put_file-requires
 put_file-requires c =
@@ -30,5 +30,5 @@ file_length-requires c =
 pub returns : goal.returns
 returns c =
     let a = c.args in
-    write_done a.sizes a.nv a.nt a.vertices.now a.triangles.now a.bytes.now c.in_ok-writable.ensures
+    write_ok a.sizes a.nv a.nt a.vertices.now a.triangles.now a.bytes.now c.in_ok-writable.ensures
     _ c.file_length.ensures _ c.put_file.ensures

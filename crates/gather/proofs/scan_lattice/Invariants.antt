@@ -1,7 +1,6 @@
 -- The pass has come to layer z. Assumes nothing.
-use Rattle.ways.specs.Ways.{words}
-use Rattle.spread.specs.Flooded.{Empty}
-use Rattle.gather.specs.Gathering.{held, Leads, row_start}
+use Rattle.gather.specs.Gathering.{held, row_start}
+use Rattle.gather.proofs.Passes.{Walk}
 use Rattle.gather.proofs.scan_lattice.Given as goal
 
 abbrev pub invariant-loop-z : goal.invariant-loop-z
@@ -10,4 +9,4 @@ invariant-loop-z l =
     let s = r.sizes in
     let before = held l.initial.vis l.initial.waiting l.initial.list 0 in
     let after = held l.vis l.waiting l.list l.count in
-    Leads s r.sides.now r.cubes.now 0 (row_start s 0 l.z) before after × Empty (words s) l.due
+    Walk s r.sides.now r.cubes.now 0 (row_start s 0 l.z) before after l.initial.due l.due

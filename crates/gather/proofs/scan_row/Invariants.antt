@@ -1,8 +1,7 @@
 -- The pass has come to cube x of the row; a row of which nothing is left is passed at once. Assumes nothing.
 use Prim.Native.Nat.{◌+◌}
-use Rattle.ways.specs.Ways.{words}
-use Rattle.spread.specs.Flooded.{Empty}
-use Rattle.gather.specs.Gathering.{held, Leads, row_start}
+use Rattle.gather.specs.Gathering.{held, row_start}
+use Rattle.gather.proofs.Passes.{Walk}
 use Rattle.gather.proofs.scan_row.Given as goal
 
 abbrev pub invariant-loop-x : goal.invariant-loop-x
@@ -11,4 +10,4 @@ invariant-loop-x l =
     let s = r.sizes in
     let before = held l.initial.vis l.initial.waiting l.initial.list l.n in
     let after = held l.vis l.waiting l.list l.count in
-    Leads s r.sides.now r.cubes.now (row_start s l.y l.z) (row_start s l.y l.z + l.x) before after × Empty (words s) l.due
+    Walk s r.sides.now r.cubes.now (row_start s l.y l.z) (row_start s l.y l.z + l.x) before after l.initial.due l.due

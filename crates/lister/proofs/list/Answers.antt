@@ -8,8 +8,8 @@ use lib.Seq.{length-take-le}
 use Rattle.std.proofs.lemmas.Result.{err_from_is_err_and}
 use Rattle.paper.specs.Lattice.{samples}
 use Rattle.lister.specs.Listing.{listed_sizes}
-use Rattle.lister.proofs.Passing.{readable}
-use Rattle.lister.proofs.Answers.{samples_are, list_refused, list_done}
+use Rattle.lister.proofs.Passing.{readable_ok}
+use Rattle.lister.proofs.Answers.{samples_listed, list_err, list_ok}
 use borrow.Author.Rules.{rules}
 use Rattle.lister.proofs.list.Goals as goal
 use Rattle.lister.proofs.list.Goals.{After-sample_count-n}
@@ -22,16 +22,16 @@ pub returns-in_err-tested : goal.returns-in_err-tested
 returns-in_err-tested c =
     let a = c.args in
     let p = err_from_is_err_and c.from_residual.result c.from_residual.ensures.1 in
-    rw (p.1, p.2) (list_refused a.input.now a.vertices.now a.triangles.now _ c.in_err-tested.ensures)
+    rw (p.1, p.2) (list_err a.input.now a.vertices.now a.triangles.now _ c.in_err-tested.ensures)
 
 pub sizes_of-sizes-requires : goal.sizes_of-sizes-requires
-sizes_of-sizes-requires c = omega (arith, (readable _ c.in_ok-tested.ensures).long)
+sizes_of-sizes-requires c = omega (arith, (readable_ok _ c.in_ok-tested.ensures).long)
 
 pub sample_count-n-requires : goal.sample_count-n-requires
-sample_count-n-requires c = rw c.sizes_of-sizes.ensures (readable _ c.in_ok-tested.ensures).sized
+sample_count-n-requires c = rw c.sizes_of-sizes.ensures (readable_ok _ c.in_ok-tested.ensures).sized
 
 fits : (c : goal.After-sample_count-n) → c.sample_count-n.result ≤ 512
-fits c = omega (arith, count c, (readable _ c.in_ok-tested.ensures).few)
+fits c = omega (arith, count c, (readable_ok _ c.in_ok-tested.ensures).few)
 
 -- the front of the room, which is all 0 before
 front : (c : goal.After-sample_count-n) → length (take c.sample_count-n.result (replicate 512 (pos 0))) ≡ c.sample_count-n.result
@@ -46,12 +46,12 @@ slice_bounds-samples-end c = sym (front (goal.at.slice_bounds-samples-end c).Aft
 pub get_all-requires : goal.get_all-requires
 get_all-requires c =
     let at = (goal.at.get_all-requires c).After-sample_count-n in
-    omega (arith, front at, count at, (readable _ c.in_ok-tested.ensures).long)
+    omega (arith, front at, count at, (readable_ok _ c.in_ok-tested.ensures).long)
 
 pub returns : goal.returns
 returns c =
     let a = c.args in
     let at = (goal.at.returns c).After-sample_count-n in
-    list_done a.input.now a.vertices.now a.triangles.now (search rules) (search rules) c.in_ok-tested.ensures
-    _ c.sizes_of-sizes.ensures _ (c.get_all.ensures ∙ samples_are a.input.now _ (front at ∙ count at))
+    list_ok a.input.now a.vertices.now a.triangles.now (search rules) (search rules) c.in_ok-tested.ensures
+    _ c.sizes_of-sizes.ensures _ (c.get_all.ensures ∙ samples_listed a.input.now _ (front at ∙ count at))
     _ c.mesh.ensures.0 _ c.mesh.ensures.1 _ c.mesh.ensures.2

@@ -25,9 +25,9 @@ loop-y-preserved c =
     let n = r.sizes.nx - 1 in
     let m = c.wanted_cubes-m in
     let e : c.loop-x.x ≡ looked_at m.result n = omega (arith, c.to_look_at-x-end.ensures) in
-    let none = none_looked m.result n (λ i h. c.loop-x.invariant.1 i (omega arith)) in
+    let none = none_looked m.result n (λ i h. c.loop-x.invariant.clear i (omega arith)) in
     record {
-      none = c.loop-x.invariant.0;
+      none = c.loop-x.invariant.none;
       clear = λ j h. clear_row c.args.off r.sizes r.sides.now r.cubes.now m.result c.loop-y.y c.sought.z n m.ensures
           (omega arith) (omega arith) c.loop-y.invariant.clear none j (omega arith);
     }
@@ -62,5 +62,5 @@ returns-then-has_bit-clause-lowest c s h =
     ∙ found_lowest off (lattice r.sizes s) r.sides.now r.cubes.now r.sized h (place x k.y z)
     (cube_in (goal.at.returns-then-has_bit-clause-lowest c).Then-has_bit)
     (clear_row off r.sizes r.sides.now r.cubes.now m.result k.y z x m.ensures (omega arith) (omega arith) k.invariant.clear
-    c.loop-x.invariant.1)
+    c.loop-x.invariant.clear)
     (sym (wanted_bit off r.sizes r.sides.now r.cubes.now m.result k.y z x m.ensures) ∙ (sym c.has_bit.ensures ∙ c.if-has_bit.true))

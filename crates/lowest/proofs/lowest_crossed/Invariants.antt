@@ -1,14 +1,10 @@
 -- No cube before the row is wanted, and no cube of the row so far. Assumes nothing.
-use mathlib.Core.Path.{◌≡◌}
-use mathlib.Core.Bool.{false}
-use Rattle.std.specs.Prelude.{None}
-use Prim.Native.Nat.{ℕ, ◌+◌, ◌-◌, ◌*◌, ◌<◌}
-use Rattle.bits.specs.Words.{bit}
-use Rattle.lowest.proofs.Search.{Seeking}
+use Prim.Native.Nat.{◌+◌, ◌-◌, ◌*◌}
+use Rattle.lowest.proofs.Search.{Seeking, Looking}
 use Rattle.lowest.proofs.lowest_crossed.Given as goal
 
 abbrev pub invariant-loop-x : goal.invariant-loop-x
-invariant-loop-x l = (l.found ≡ None) × ((i : ℕ) → i < l.x → bit l.m i ≡ false)
+invariant-loop-x l = Looking l.m l.found l.x
 
 abbrev pub invariant-loop-y : goal.invariant-loop-y
 invariant-loop-y l =

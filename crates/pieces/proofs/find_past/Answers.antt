@@ -1,6 +1,6 @@
 -- The crossed cubes, a pass over them, tests 5 and 20, and a clear. Assumes nothing.
 use Rattle.spread.proofs.Joining.{fresh}
-use Rattle.pieces.proofs.Answers.{fit_begun, finds_none, finds_some}
+use Rattle.pieces.proofs.Answers.{fit_begun, finds_none, finds_told}
 use Rattle.pieces.proofs.find_past.Goals as goal
 
 pub mark_crossed-requires : goal.mark_crossed-requires
@@ -23,5 +23,5 @@ returns-then-n-eq0 c v h =
 pub returns : goal.returns
 returns c v h =
     let r = c.args.rows.now in
-    finds_some r.sizes r.sized r.sides.now r.cubes.now _ _ _ (fresh r.sizes r.sized) _ c.scan_lattice-n.ensures v h
+    finds_told r.sizes r.sized r.sides.now r.cubes.now _ _ _ (fresh r.sizes r.sized) _ c.scan_lattice-n.ensures v h
     c.if-n-eq0.false _ _ _ c.put_list-listed.result c.put_list-listed.ensures.room c.put_list-listed.ensures.put _ c.clear_work.ensures

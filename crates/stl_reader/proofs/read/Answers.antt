@@ -2,7 +2,7 @@
 use Rattle.std.proofs.Common.{◌≡◌, arith, refl, subst, sym, length, rules, Err}
 use Rattle.paper.specs.Tests.{verdict}
 use Rattle.stl.specs.Within.{AllStand, Sound}
-use Rattle.stl.proofs.Answers.{sound, read_refused, read_done}
+use Rattle.stl.proofs.Answers.{sound, read_err, read_ok}
 use Rattle.stl_reader.proofs.read.Goals as goal
 use Rattle.stl_reader.proofs.read.Goals.{In_ok-readable}
 
@@ -12,7 +12,7 @@ accepted c = sound c.args.bytes.now c.args.out.now (verdict 0 0) c.in_ok-readabl
 pub returns-in_err-readable : goal.returns-in_err-readable
 returns-in_err-readable c =
     let e : c.from_residual.result ≡ Err c.in_err-readable.field-0.0 = search rules in
-    rw e (read_refused c.args.bytes.now c.args.out.now _ c.in_err-readable.ensures)
+    rw e (read_err c.args.bytes.now c.args.out.now _ c.in_err-readable.ensures)
 
 pub facet_count-n-requires : goal.facet_count-n-requires
 facet_count-n-requires c = omega (arith, (accepted (goal.at.facet_count-n-requires c).In_ok-readable).long)
@@ -25,4 +25,4 @@ get_facets-requires c =
 
 pub returns : goal.returns
 returns c =
-    read_done c.args.bytes.now c.args.out.now c.in_ok-readable.ensures _ _ c.facet_count-n.ensures.0 c.get_facets.ensures
+    read_ok c.args.bytes.now c.args.out.now c.in_ok-readable.ensures _ _ c.facet_count-n.ensures.0 c.get_facets.ensures

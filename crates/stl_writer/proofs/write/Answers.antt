@@ -2,7 +2,7 @@
 use Rattle.std.proofs.Common.{◌≡◌, arith, refl, length, rules, Err}
 use Rattle.paper.specs.Tests.{verdict}
 use Rattle.stl.specs.Within.{Fine}
-use Rattle.stl.proofs.Answers.{fine, write_refused, write_done}
+use Rattle.stl.proofs.Answers.{fine, write_err, write_ok}
 use Rattle.stl_writer.proofs.write.Goals as goal
 use Rattle.stl_writer.proofs.write.Goals.{In_ok-writable}
 
@@ -13,7 +13,7 @@ pub returns-in_err-writable : goal.returns-in_err-writable
 returns-in_err-writable c =
     let a = c.args in
     let e : c.from_residual.result ≡ Err c.in_err-writable.field-0.0 = search rules in
-    rw e (write_refused a.nv a.nt a.vertices.now a.triangles.now a.bytes.now _ c.in_err-writable.ensures)
+    rw e (write_err a.nv a.nt a.vertices.now a.triangles.now a.bytes.now _ c.in_err-writable.ensures)
 
 pub invariant_of-sheet : goal.invariant_of-sheet
 invariant_of-sheet c = record { named = (accepted (goal.at.invariant_of-sheet c).In_ok-writable).named }
@@ -27,4 +27,4 @@ stl_length-requires c = omega (arith, accepted (goal.at.stl_length-requires c).I
 pub returns : goal.returns
 returns c =
     let a = c.args in
-    write_done a.nv a.nt a.vertices.now a.triangles.now a.bytes.now c.in_ok-writable.ensures _ c.stl_length.ensures _ c.put_file.ensures
+    write_ok a.nv a.nt a.vertices.now a.triangles.now a.bytes.now c.in_ok-writable.ensures _ c.stl_length.ensures _ c.put_file.ensures

@@ -6,7 +6,8 @@ use Rattle.std.specs.Float.{IsFloatMin}
 use Rattle.greys.specs.Sample.{held}
 use Rattle.greys.specs.Within.{most}
 use Rattle.greys.proofs.Product.{scale_casts}
-use Rattle.greys.proofs.Cut.{Plainly, stepped_is}
+use Rattle.greys.proofs.Cut.{Plainly}
+use Rattle.greys.proofs.Least.{steps_is}
 use Rattle.voxels.proofs.steps.Goals as goal
 use Rattle.voxels.proofs.steps.Goals.{After-min}
 
@@ -16,7 +17,7 @@ unfolding of_bits of_fields odd
 cut c =
     let a = c.args in
     let held_to = λ (y : Float). IsFloatMin (mul binary32 y (of_int binary32 (pos a.scale))) most c.min.result in
-    stepped_is a.scale c.requires.0 a.d c.min.result c.requires.1 c.requires.2 (subst held_to c.abs.ensures.value c.min.ensures.value)
+    steps_is a.scale c.requires.0 a.d c.min.result c.requires.1 c.requires.2 (subst held_to c.abs.ensures.value c.min.ensures.value)
 
 pub int_to_float-scale : goal.int_to_float-scale
 int_to_float-scale c = scale_casts c.args.scale c.requires.0

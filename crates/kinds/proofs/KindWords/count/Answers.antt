@@ -5,7 +5,7 @@ use native.Mathlib.Omega.{arith}
 use borrow.Author.Count.{below_more}
 use lib.ListN.{get_or}
 use Rattle.kinds.specs.Kinds.{seven}
-use Rattle.kinds.proofs.KindCounts.{counted, counted_none, counted_more, edges_count}
+use Rattle.kinds.proofs.KindCounts.{counted, counted_none, counted_more, counted_all}
 use Rattle.kinds.proofs.KindWords.count.Goals as goal
 
 pub loop-w-init : goal.loop-w-init
@@ -22,4 +22,4 @@ pub returns : goal.returns
 returns c =
     let k = c.args.self.now in
     let e : c.loop-w.w-index ≡ 7 = omega arith in
-    (c.loop-w.invariant.0 ∙ (ap (counted k) e ∙ edges_count k (λ j h. c.loop-w.invariant.2 j (omega arith))), omega (arith, c.loop-w.invariant.1))
+    (c.loop-w.invariant.0 ∙ (ap (counted k) e ∙ counted_all k (λ j h. c.loop-w.invariant.2 j (omega arith))), omega (arith, c.loop-w.invariant.1))
