@@ -29,12 +29,21 @@ use Rattle.greys.specs.Within.{Bounded}
 use Rattle.greys.proofs.Bounds.{difference_bounded}
 use Rattle.greys.proofs.Converting.{fine}
 use Rattle.greys.proofs.Signs.{sample_side, side_kept}
+use Rattle.std.specs.Prelude.{Result}
+use Rattle.paper.specs.declared.Refusal.{Refusal}
+use Rattle.paper.specs.Refused.{verdict_told}
+use Rattle.paper.proofs.Told.{told_one}
 
 -- ── any two outcomes agree ──
 
 pub converts_agree : {l : Level} {n : ℕ} {vs : List Float} {before after after' : List ℤ} {r r' : Verdict}
     → Converts l n vs before r after → Converts l n vs before r' after' → (r ≡ r') × (after ≡ after')
 converts_agree c c' = (c.answer ∙ sym c'.answer, c.left ∙ sym c'.left)
+
+-- as Results too
+pub convert_results : {l : Level} {n : ℕ} {vs : List Float} {before after after' : List ℤ} {r r' : Result (Unit {0}) Refusal}
+    → Converts l n vs before (verdict_told r) after → Converts l n vs before (verdict_told r') after' → (r ≡ r') × (after ≡ after')
+convert_results {r = r} {r' = r'} a b = let w = converts_agree a b in (told_one r r' w.0, w.1)
 
 -- ── "cut towards zero and held to ±32,767; where d is above 0 the sample is at least 1" ──
 

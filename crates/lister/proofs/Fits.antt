@@ -20,6 +20,14 @@ use Rattle.paper.proofs.Listing.{vertex_words_length, triangle_words_length}
 use Rattle.paper.proofs.Passing.{built_number, built_zero, built_fits}
 use Rattle.lister.specs.Listing.{listed_lattice, listing_number, vertex_numbers, triangle_numbers}
 use Rattle.lister.specs.Listing.{listing_room, own_room, listed, listed_after, Lists}
+use Rattle.std.specs.Prelude.{Result}
+use Rattle.paper.specs.declared.BuildError.{BuildError}
+use Rattle.paper.specs.declared.SheetCounts.{SheetCounts}
+use Rattle.paper.specs.Refused.{built_told}
+use Rattle.paper.specs.Tests.{judge}
+use Rattle.paper.proofs.Judged.{judge_among}
+use Rattle.paper.proofs.Told.{placed, Telling, telling, telling_uncounted, built_one}
+use Rattle.lister.specs.Listing.{listing_tests}
 
 -- the counted vertices and triangles stand in slices of these lengths
 pub record Fits (r : Built) (nv nt : ℕ) : Type 0 where
@@ -100,3 +108,21 @@ pub lists_agree : (bs : List ℕ) (vs : List ℤ) (ts : List ℕ) (r₁ r₂ : B
     → Lists bs vs ts r₁ vs₁ ts₁ → Lists bs vs ts r₂ vs₂ ts₂ → (r₁ ≡ r₂) × (vs₁ ≡ vs₂) × (ts₁ ≡ ts₂)
 lists_agree bs vs ts r₁ r₂ vs₁ vs₂ ts₁ ts₂ a b =
     (a.answer ∙ sym b.answer, a.vertices ∙ sym b.vertices, a.triangles ∙ sym b.triangles)
+
+-- as Results too
+telling_listed : (bs : List ℕ) → Telling (listed bs)
+unfolding listed listing_number listing_tests
+telling_listed bs = go (eqb (listing_number bs) 0)
+  where
+    go : (b : Bool) → Telling (cond b (built (listed_lattice bs) Lowest own_room) (uncounted (listing_number bs)))
+    go true = telling (listed_lattice bs) Lowest own_room
+    go false =
+        judge_among (λ n. Telling (uncounted n)) (listing_tests bs)
+        (telling_uncounted 1 refl refl, (telling_uncounted 1 refl refl, (telling_uncounted 1 refl refl, (telling_uncounted 2 refl refl, tt))))
+        (λ z. telling_uncounted 0 refl refl)
+
+pub list_results : (bs : List ℕ) (vs : List ℤ) (ts : List ℕ) (r₁ r₂ : Result SheetCounts BuildError) (vs₁ vs₂ : List ℤ) (ts₁ ts₂ : List ℕ)
+    → Lists bs vs ts (built_told r₁) vs₁ ts₁ → Lists bs vs ts (built_told r₂) vs₂ ts₂ → (r₁ ≡ r₂) × (vs₁ ≡ vs₂) × (ts₁ ≡ ts₂)
+list_results bs vs ts r₁ r₂ vs₁ vs₂ ts₁ ts₂ a b =
+    let w = lists_agree bs vs ts _ _ vs₁ vs₂ ts₁ ts₂ a b in
+    (built_one (listed bs) (telling_listed bs) r₁ r₂ a.answer b.answer, w.1, w.2)

@@ -21,3 +21,4 @@ pub mod Passing
 pub mod Fill
 pub mod Parted
 pub mod Agreement
+pub mod Told

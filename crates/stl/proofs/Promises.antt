@@ -26,6 +26,14 @@ use Rattle.stl.specs.Within.{Fine}
 use Rattle.stl.proofs.Laws.{file_long, vertex_bounded, corners_within}
 use Rattle.stl.proofs.Answers.{fine, write_none, sound_verdict}
 use Rattle.stl.proofs.Written.{written_count, written_facet, written_words, written_sound}
+use Rattle.std.specs.Prelude.{Result, Ok, Err}
+use Rattle.paper.specs.declared.Refusal.{Refusal}
+use Rattle.paper.specs.declared.Verdict.{Verdict}
+use Rattle.paper.specs.Tests.{verdict}
+use Rattle.paper.specs.Refused.{wrote_told}
+use Rattle.paper.proofs.Refusals.{some_number}
+use Rattle.paper.proofs.Told.{verdict_one, wrote_one}
+use Rattle.stl.specs.Told.{loaded_told}
 
 -- ── "nothing may be rounded" ──
 
@@ -127,3 +135,19 @@ stl_writes_agree w w' = (w.answer ∙ sym w'.answer, w.left ∙ sym w'.left)
 pub stl_reads_agree : {bs : List ℕ} {before : List ℤ} {r r' : Loaded} {after after' : List ℤ}
     → StlReads bs before r after → StlReads bs before r' after' → (r ≡ r') × (after ≡ after')
 stl_reads_agree w w' = (w.answer ∙ sym w'.answer, w.left ∙ sym w'.left)
+
+-- as Results too
+pub stl_write_results : {nv nt : ℕ} {vs : List ℤ} {ts before : List ℕ} {r r' : Result ℕ Refusal} {after after' : List ℕ}
+    → StlWrites nv nt vs ts before (wrote_told r) after → StlWrites nv nt vs ts before (wrote_told r') after'
+    → (r ≡ r') × (after ≡ after')
+stl_write_results {r = r} {r' = r'} a b = let w = stl_writes_agree a b in (wrote_one r r' w.0, w.1)
+
+loaded_one : (r s : Result ℕ Refusal) → loaded_told r ≡ loaded_told s → r ≡ s
+loaded_one (Ok m) (Ok n) h = ap (λ (l : Loaded). Ok l.facets) h
+loaded_one (Ok _) (Err f) h = absurd (omega (arith, some_number f, ap (λ (l : Loaded). l.number) h))
+loaded_one (Err e) (Ok _) h = absurd (omega (arith, some_number e, ap (λ (l : Loaded). l.number) h))
+loaded_one (Err e) (Err f) h = ap Err (verdict_one e f (ap (λ (l : Loaded). verdict l.number l.place) h))
+
+pub stl_read_results : {bs : List ℕ} {before : List ℤ} {r r' : Result ℕ Refusal} {after after' : List ℤ}
+    → StlReads bs before (loaded_told r) after → StlReads bs before (loaded_told r') after' → (r ≡ r') × (after ≡ after')
+stl_read_results {r = r} {r' = r'} a b = let w = stl_reads_agree a b in (loaded_one r r' w.0, w.1)

@@ -22,6 +22,16 @@ use Rattle.paper.proofs.Passing.{shape_numbered}
 use Rattle.tray.specs.declared.Found.{Found}
 use Rattle.tray.specs.Pieces.{lowest_cubes, plain_scan, Lent, piece_tests, find_number, found_in, lent_after, Finds}
 use Rattle.tray.proofs.Scanning.{scan_lowest, one_piece}
+use Rattle.std.specs.Prelude.{Result, Ok, Err}
+use Rattle.paper.specs.declared.Refusal.{Refusal}
+use Rattle.paper.specs.declared.Refusal.TheVariants.{Axes, SampleCount, WorkRoom, NoCube, NotCrossed, VertexRoom, TriangleRoom, ByteRoom, CountLimit, ShortFile, Mark}
+use Rattle.paper.specs.declared.Refusal.TheVariants.{Layout, Index, OtherSizes, Record, Triangle, Absent, Grey, LevelOrder, Coordinate, Scale}
+use Rattle.paper.specs.Refused.{verdict_of}
+use Rattle.paper.proofs.Refusals.{some_number}
+use Rattle.paper.proofs.Told.{placed, number_one}
+use Rattle.tray.specs.declared.FindError.{FindError}
+use Rattle.tray.specs.declared.FindError.TheVariants.{Refused, ListRoom}
+use Rattle.tray.specs.Told.{found_told}
 
 -- any two outcomes agree
 pub finds_agree : {L : Lattice} {before : Lent} {r r' : Found} {after after' : Lent} → Finds L before r after → Finds L before r' after'
@@ -123,3 +133,53 @@ module _ {L : Lattice} {before : Lent} {r : Found} {after : Lent} (f : Finds L b
       none : (l : List ℕ) (c : ℕ) → T (is_in l c) → length l < 1 → ⊥
       none [] c t h = t
       none (x ∷ l) c t h = omega arith
+
+
+-- ── a search's answer as a Result: where its contract allows one outcome, it allows one Result ──
+
+-- 20 is the list's alone
+not_twenty : (e : Refusal) → (verdict_of e).number ≡ 20 → ⊥
+not_twenty Axes h = absurd (omega (arith, h))
+not_twenty SampleCount h = absurd (omega (arith, h))
+not_twenty WorkRoom h = absurd (omega (arith, h))
+not_twenty NoCube h = absurd (omega (arith, h))
+not_twenty NotCrossed h = absurd (omega (arith, h))
+not_twenty VertexRoom h = absurd (omega (arith, h))
+not_twenty TriangleRoom h = absurd (omega (arith, h))
+not_twenty ByteRoom h = absurd (omega (arith, h))
+not_twenty CountLimit h = absurd (omega (arith, h))
+not_twenty ShortFile h = absurd (omega (arith, h))
+not_twenty Mark h = absurd (omega (arith, h))
+not_twenty Layout h = absurd (omega (arith, h))
+not_twenty (Index i) h = absurd (omega (arith, h))
+not_twenty OtherSizes h = absurd (omega (arith, h))
+not_twenty (Record i) h = absurd (omega (arith, h))
+not_twenty (Triangle i) h = absurd (omega (arith, h))
+not_twenty Absent h = absurd (omega (arith, h))
+not_twenty (Grey i) h = absurd (omega (arith, h))
+not_twenty LevelOrder h = absurd (omega (arith, h))
+not_twenty (Coordinate i) h = absurd (omega (arith, h))
+not_twenty Scale h = absurd (omega (arith, h))
+
+found_one : (r s : Result ℕ FindError) → placed (found_told r).number ≡ false → found_told r ≡ found_told s → r ≡ s
+found_one (Ok m) (Ok n) p h = ap (λ (f : Found). Ok f.pieces) h
+found_one (Ok m) (Err (Refused f)) p h = absurd (omega (arith, some_number f, ap (λ (f : Found). f.number) h))
+found_one (Ok m) (Err (ListRoom n)) p h = absurd (omega (arith, ap (λ (f : Found). f.number) h))
+found_one (Err (Refused e)) (Ok n) p h = absurd (omega (arith, some_number e, ap (λ (f : Found). f.number) h))
+found_one (Err (Refused e)) (Err (Refused f)) p h =
+    ap (λ (e : Refusal). Err (Refused e)) (number_one e f p (ap (λ (f : Found). f.number) h))
+found_one (Err (Refused e)) (Err (ListRoom n)) p h = absurd (not_twenty e (ap (λ (f : Found). f.number) h))
+found_one (Err (ListRoom m)) (Ok n) p h = absurd (omega (arith, ap (λ (f : Found). f.number) h))
+found_one (Err (ListRoom m)) (Err (Refused f)) p h = absurd (not_twenty f (sym (ap (λ (f : Found). f.number) h)))
+found_one (Err (ListRoom m)) (Err (ListRoom n)) p h = ap (λ (f : Found). Err (ListRoom f.pieces)) h
+
+unplaced_number : (L : Lattice) (l : Lent) → placed (find_number L l) ≡ false
+unfolding find_number shape_tests piece_tests
+unplaced_number L l =
+    judge_among (λ n. placed n ≡ false) (shape L l ++ rest L l) (refl, (refl, (refl, (refl, (refl, tt))))) (λ z. refl)
+
+pub find_results : {L : Lattice} {before : Lent} {r r' : Result ℕ FindError} {after after' : Lent}
+    → Finds L before (found_told r) after → Finds L before (found_told r') after' → (r ≡ r') × (after ≡ after')
+find_results {L} {before} {r} {r'} a b =
+    let w = finds_agree a b in
+    (found_one r r' (ap placed (number_is a) ∙ unplaced_number L before) w.0, w.1)
