@@ -1,33 +1,14 @@
--- The four numbers of a record, and two records that are the same. Assumes nothing.
-use mathlib.Core.Path.{◌≡◌, sym, ap, ◌∙◌}
-use mathlib.Core.Bool.{◌&&◌, and-true}
+-- The four numbers of a record, and its edge. Assumes nothing.
+use mathlib.Core.Path.{◌≡◌, ap, ◌∙◌}
 use mathlib.Core.List.{List, [], ◌∷◌}
 use Prim.Native.Nat.{ℕ, suc, ◌+◌, ◌*◌, ◌≤◌}
 use native.Mathlib.Omega.{arith}
 use lib.IntN.{ℤ, pos}
 use lib.ListN.{length, get_or, take, drop}
 use lib.Seq.{drop-cons}
-use Rattle.std.proofs.Common.{int_eq}
-use Rattle.std.proofs.lemmas.Bool.Decides.{Decides-int_eq}
-use Rattle.lists.proofs.Closure.{bool_same}
-use Rattle.lists.proofs.Member.{t_to_eq, eq_to_t}
-use Rattle.paper.specs.Check.{same_number, same_numbers, record_of, edge_of}
-use Rattle.paper.proofs.Records.{same_number_law, number_same}
+use Rattle.paper.specs.Check.{record_of, edge_of}
 use Rattle.crossing.specs.declared.Vertex.{Vertex}
 use Rattle.crossing.specs.Vertex.{numbers}
-
--- two numbers are the same, by either test
-same_signed : (x y : ℤ) → int_eq x y ≡ same_number x y
-same_signed x y =
-    bool_same (int_eq x y) (same_number x y) (λ t. number_same ((Decides-int_eq x y).0 (t_to_eq _ t)))
-    (λ t. eq_to_t ((Decides-int_eq x y).1 (same_number_law x y t)))
-
--- and so are two records
-pub same_vertex : (v w : Vertex) → (int_eq v.edge w.edge && (int_eq v.x w.x && (int_eq v.y w.y && int_eq v.z w.z)))
-    ≡ same_numbers (numbers v) (numbers w)
-same_vertex v w i =
-    same_signed v.edge w.edge i
-    && (same_signed v.x w.x i && (same_signed v.y w.y i && (same_signed v.z w.z ∙ sym (and-true (same_number v.z w.z))) i))
 
 -- a record's four numbers
 pub four : (vs : List ℤ) (i : ℕ) → 4 * i + 4 ≤ length vs
