@@ -50,7 +50,7 @@ pub fn build(
 {
     let mut sides = [0u64; 4096];
     let mut may = [0u64; 4096];
-    let k = ready::begin(
+    let begun = ready::begin(
         samples,
         sizes,
         start,
@@ -59,7 +59,11 @@ pub fn build(
         slots.len(),
         &mut sides,
         &mut may,
-    )?;
+    );
+    let k = match begun {
+        Ok(k) => k,
+        Err(e) => return Err(BuildError::Refused(e)),
+    };
     let surface = surface_of(samples, sizes, &sides, &may);
     build_past::build_from(&surface, k, vertices, triangles, words, waiting, slots)
 }

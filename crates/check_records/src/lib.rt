@@ -6,7 +6,7 @@ ghost use Rattle.paper.specs.Lattice.{lattice, sample_at};
 ghost use Rattle.paper.specs.Room.{needed_slots};
 ghost use Rattle.paper.specs.Within.{Sized, SampleIn};
 ghost use Rattle.paper.specs.File.{file_v, file_vertices};
-ghost use Rattle.paper.specs.Check.{record_of};
+ghost use Rattle.paper.specs.Check.{record_of, same_numbers};
 ghost use Rattle.crossing.specs.Vertex.{numbers};
 ghost use Rattle.check_records.specs.Records.{AllCross, edge_in, good_edge, first_bad_in, slots_after};
 
@@ -49,6 +49,13 @@ fn record_at(file: &SheetFile, i: usize) -> Vertex
     }
 }
 
+// Whether two records have the same numbers.
+fn same_vertex(v: &Vertex, w: &Vertex) -> bool
+    ensures { result ≡ same_numbers (numbers v.now) (numbers w.now) }
+{
+    v.edge == w.edge && v.x == w.x && v.y == w.y && v.z == w.z
+}
+
 // The edge of record i, where its slot is used and the record is its vertex's by a rule.
 fn good_edge(
     rule: Rule,
@@ -71,7 +78,7 @@ fn good_edge(
     }
     let p = anchor_of(volume.sizes, e);
     let w = crossing::vertex_on(rule, volume, p, e % 7);
-    if v == w { Some(e) } else { None }
+    if same_vertex(&v, &w) { Some(e) } else { None }
 }
 
 // The first record that is not, by a rule, that of a vertex, or whose edge an earlier record has; the slots of the edges before it become

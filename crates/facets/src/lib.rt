@@ -23,7 +23,7 @@ pub struct Facet {
     pub c: Corner,
 }
 
-// The greatest coordinate.
+// The greatest coordinate that a float is taken for.
 const MOST: u32 = 4128768;
 
 // A sheet's number / 65,536, exactly.
@@ -68,7 +68,7 @@ pub fn word_of(x: f32) -> i32
 pub fn in_bounds(w: i32) -> bool
     ensures { result ≡ in_bounds w }
 {
-    (0..=MOST as i32).contains(&w)
+    (0..=4128768).contains(&w)
 }
 
 impl Corner {

@@ -16,7 +16,7 @@ fn first_bad(voxels: &[f32]) -> Option<usize>
     ensures first { unwrap_or result (length voxels.now) ≡ first_bad voxels.now }
     ensures within { IfSome result (λ i. i < length voxels.now) }
 {
-    voxels.iter().position(|&v| !voxels::is_grey(v))
+    (0..voxels.len()).find(|&i| !voxels::is_grey(voxels[i]))
 }
 
 // The samples of all voxels, at the front of the lent slice. By index: of what was written through `iter_mut` nothing can be proved.
@@ -24,8 +24,8 @@ fn put_samples(voxels: &[f32], level: f32, scale: u32, samples: &mut [i16])
     requires { Fine level scale voxels.now × (length voxels.now ≤ length samples.old) }
     ensures { samples.new ≡ over (map (sample_of level scale) voxels.now) samples.old }
 {
-    for (i, &voxel) in voxels.iter().enumerate() {
-        samples[i] = voxels::sample_of(level, scale, voxel);
+    for i in 0..voxels.len() {
+        samples[i] = voxels::sample_of(level, scale, voxels[i]);
     }
 }
 

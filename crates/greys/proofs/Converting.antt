@@ -1,8 +1,8 @@
 -- Laws of the loop and of the tests. Assumes nothing.
 use mathlib.Core.Path.{◌≡◌, refl, sym, subst, ap, ◌∙◌}
-use mathlib.Core.Bool.{true, false, not}
+use mathlib.Core.Bool.{Bool, true, false, not}
 use mathlib.Core.List.{List, [], ◌∷◌, ◌++◌, map}
-use Prim.Native.Nat.{ℕ, zero, suc, ◌<◌}
+use Prim.Native.Nat.{ℕ, zero, suc, ◌≤◌, ◌<◌}
 use native.Mathlib.Nat.{le_of_suc-le-suc}
 use native.Mathlib.Omega.{arith}
 use borrow.Author.Tests.{eqb-true, eq-eqb, ne_eqb, not-false}
@@ -13,7 +13,6 @@ use lib.Seq.{take-length}
 use lib.Ieee.{Float, nan}
 use Rattle.lists.specs.Lists.{over}
 use Rattle.std.specs.Prelude.{Option, Some, None, MatchOption, unwrap_or}
-use Rattle.std.specs.List.{AllWithin, HoldsAt}
 use Rattle.lists.proofs.Firsts.{first_before, first_found, first_missing}
 use Rattle.paper.specs.declared.Verdict.{Verdict}
 use Rattle.paper.specs.Tests.{Test, test, test_at, judge}
@@ -53,14 +52,18 @@ unfolding first_bad
 all_greys vs e i h =
     not-false _ (first_before (λ k. not (is_grey (get_or vs k nan))) (length vs) i (subst (λ (n : ℕ). i < n) (sym e) h))
 
--- the first voxel that is no grey, or none
+-- whether voxel i is no grey
+abbrev pub bad_at : List Float → ℕ → Bool
+bad_at vs i = not (is_grey (get_or vs i nan))
+
+-- the place of the first voxel that is no grey, or none
 pub first_is : (vs : List Float) (r : Option ℕ)
-    → MatchOption r (AllWithin (λ v. is_grey v ≡ true) vs 0 (length vs))
-    (λ i. (i < length vs) × HoldsAt (λ v. is_grey v ≡ false) vs i × AllWithin (λ v. is_grey v ≡ true) vs 0 i)
+    → MatchOption r ((k : ℕ) → 0 ≤ k → k < length vs → bad_at vs k ≡ false)
+    (λ i. (0 ≤ i) × (i < length vs) × (bad_at vs i ≡ true) × ((k : ℕ) → 0 ≤ k → k < i → bad_at vs k ≡ false))
     → unwrap_or r (length vs) ≡ first_bad vs
 unfolding first_bad
-first_is vs None good = first_missing _ _ (λ k h. ap not (good k nan (omega arith) h))
-first_is vs (Some i) (h, bad, good) = first_found _ _ i h (λ k g. ap not (good k nan (omega arith) g)) (ap not (bad nan))
+first_is vs None good = first_missing _ _ (λ k h. good k (omega arith) h)
+first_is vs (Some i) h = first_found _ _ i h.1 (λ k g. h.3 k (omega arith) g) h.2
 
 module _ (l : Level) (n : ℕ) (vs : List Float) where
   abbrev pub convert_tests : ℕ → ℕ → List Test

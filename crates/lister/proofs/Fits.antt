@@ -24,9 +24,8 @@ use Rattle.std.specs.Prelude.{Result}
 use Rattle.paper.specs.declared.BuildError.{BuildError}
 use Rattle.paper.specs.declared.SheetCounts.{SheetCounts}
 use Rattle.paper.specs.Refused.{built_told}
-use Rattle.paper.specs.Tests.{judge}
 use Rattle.paper.proofs.Judged.{judge_among}
-use Rattle.paper.proofs.Told.{placed, Telling, telling, telling_uncounted, built_one}
+use Rattle.paper.proofs.Told.{Telling, telling, telling_uncounted, built_one}
 use Rattle.lister.specs.Listing.{listing_tests}
 
 -- the counted vertices and triangles stand in slices of these lengths

@@ -1,7 +1,9 @@
 // The listing of bytes: their header, their samples, and the sheet of these from the lowest crossed cube.
 #![tactic(auto)]
 
-ghost use Rattle.std.specs.Prelude.{◌≡◌, ◌≤◌, length};
+ghost use Rattle.std.specs.Prelude.{◌≡◌, ◌+◌, ◌*◌, ◌≤◌, length, map};
+ghost use Rattle.lists.specs.Lists.{range};
+ghost use Rattle.lists.specs.Bytes.{signed, field};
 ghost use Rattle.paper.specs.Lattice.{lattice};
 ghost use Rattle.paper.specs.Tests.{judge};
 ghost use Rattle.paper.specs.Refused.{verdict_told, built_told};
@@ -51,6 +53,16 @@ fn tested(input: &[u8]) -> Result<(), Refusal>
     Ok(())
 }
 
+// The samples, from the bytes behind the header. By index: of what is written through iter_mut a proof knows the length only.
+fn get_samples(input: &[u8], samples: &mut [i16])
+    requires { 6 + 2 * length samples.old ≤ length input.now }
+    ensures { samples.new ≡ map (λ i. signed 32768 (field 2 input.now (6 + 2 * i))) (range 0 (length samples.old)) }
+{
+    for i in 0..samples.len() {
+        samples[i] = i16::get(input, 6 + 2 * i);
+    }
+}
+
 // The sheet of samples, in work room of its own.
 #[tactic(auto, unfolding(crate::specs::Listing::listing_room))]
 fn mesh(
@@ -92,6 +104,6 @@ pub fn list(
     let n = lattice::sample_count(sizes);
     let mut room = [0i16; 512];
     let samples = &mut room[..n];
-    codec::get_all(input, 6, samples);
+    get_samples(input, samples);
     mesh(samples, sizes, vertices, triangles)
 }

@@ -48,7 +48,10 @@ fn named_cube(rows: &Rows, p: Place) -> Result<usize, Refusal>
 fn lowest_cube(rows: &Rows, off: bool) -> Result<usize, Refusal>
     ensures { ChosenBy rows.now.sizes rows.now.sides.now rows.now.cubes.now (unplaced off) result }
 {
-    lowest::lowest_crossed(rows, off).ok_or(Refusal::NotCrossed)
+    match lowest::lowest_crossed(rows, off) {
+        Some(k) => Ok(k),
+        None => Err(Refusal::NotCrossed),
+    }
 }
 
 // Tests 4 and 5, by the rows of sides and of cubes that may be visited.

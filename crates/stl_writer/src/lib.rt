@@ -83,7 +83,7 @@ impl Triangles<'_> {
         let a = self.corner(self.triangles[at] as usize);
         let b = self.corner(self.triangles[at + 1] as usize);
         let c = self.corner(self.triangles[at + 2] as usize);
-        facet_writer::put_facet(bytes, stl::stl_length(i), a, b, c);
+        facet_writer::put_facet(bytes, 84 + 50 * i, a, b, c);
     }
 
     // Stores all facets.

@@ -1,7 +1,6 @@
 -- Tests 1 to 5, then a build from the start. Assumes nothing.
 use mathlib.Core.Path.{sym, ap}
 use native.Mathlib.Omega.{arith}
-use Rattle.std.proofs.lemmas.Result.{err_from_is_err_and}
 use Rattle.paper.specs.declared.Verdict.{Verdict}
 use Rattle.paper.specs.Lattice.{Lattice, lattice}
 use Rattle.paper.specs.Room.{work}
@@ -19,17 +18,16 @@ abbrev before : goal.Start → Lent
 before s =
     lent s.args.vertices.now s.args.triangles.now (work s.args.words.now s.args.waiting.now s.args.slots.now)
 
-pub returns-in_err-k : goal.returns-in_err-k
-returns-in_err-k c =
-    let p = err_from_is_err_and c.from_residual.result c.from_residual.ensures.1 in
-    let e = c.in_err-k.field-0.0 in
-    let s = (goal.at.returns-in_err-k c).Start in
-    rw (p.1, p.2) (refused (L s) c.args.start (before s) (verdict_of e).number (ap (λ (v : Verdict). v.number) c.in_err-k.ensures.answer) (λ q. omega (arith, some_number e)))
+pub returns-in-Err : goal.returns-in-Err
+returns-in-Err c =
+    let e = c.in-Err.e in
+    let s = (goal.at.returns-in-Err c).Start in
+    refused (L s) c.args.start (before s) (verdict_of e).number (ap (λ (v : Verdict). v.number) c.in-Err.ensures.answer) (λ q. omega (arith, some_number e))
 
 pub returns : goal.returns
 returns c =
-    let h = c.in_ok-k.ensures in
+    let h = c.in-Ok.ensures in
     let e = c.surface_of-surface.ensures in
     let s = (goal.at.returns c).Start in
     let b = rw (e.0, e.1) at c.build_from.ensures in
-    settled (L s) c.args.start (before s) (sym (ap (λ (v : Verdict). v.number) h.answer)) c.in_ok-k.k h.begins.is _ _ b
+    settled (L s) c.args.start (before s) (sym (ap (λ (v : Verdict). v.number) h.answer)) c.in-Ok.k h.begins.is _ _ b

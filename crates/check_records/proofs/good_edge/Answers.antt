@@ -24,9 +24,9 @@ use Rattle.dots.specs.Slots.{used}
 use Rattle.layout.proofs.Trailer.{vertices_length}
 use Rattle.check_records.specs.Records.{edge_in, edge_at}
 use Rattle.check_records.proofs.Laws.{edge_out, edge_idle, edge_wrong, edge_right}
-use Rattle.check_records.proofs.Numbers.{same_vertex, edge_is}
+use Rattle.check_records.proofs.Numbers.{edge_is}
 use Rattle.check_records.proofs.good_edge.Goals as goal
-use Rattle.check_records.proofs.good_edge.Goals.{After-eq, After-sample_count, In_ok-e, Else-slots-e-eq0, After-anchor_of-p, Start}
+use Rattle.check_records.proofs.good_edge.Goals.{After-same_vertex, After-sample_count, In_ok-e, Else-slots-e-eq0, After-anchor_of-p, Start}
 
 abbrev L : goal.Start → Lattice
 L s = let v = s.args.volume.now in lattice v.sizes v.samples.now
@@ -73,17 +73,16 @@ back c =
     omega arith
 
 -- the record is compared with the vertex's
-compared : (c : goal.After-eq) → let s = (goal.at.After-eq c).Start in
+compared : (c : goal.After-same_vertex) → let s = (goal.at.After-same_vertex c).Start in
     let i = c.args.i in
-    c.eq.result ≡ same_numbers (record_of (vs s) i) (vertex_record c.args.rule (L s) (edge_at (L s) (vs s) i))
+    c.same_vertex.result ≡ same_numbers (record_of (vs s) i) (vertex_record c.args.rule (L s) (edge_at (L s) (vs s) i))
 compared c =
-    let s = (goal.at.After-eq c).Start in
+    let s = (goal.at.After-same_vertex c).Start in
     let v = c.record_at-v in
     let w = c.vertex_on-w in
-    let e = back (goal.at.After-eq c).After-anchor_of-p ∙ found (goal.at.After-eq c).In_ok-e in
-    c.eq.ensures
-    ∙ (same_vertex v.result w.result
-    ∙ (λ j. same_numbers (v.ensures j) ((w.ensures ∙ ap (vertex_record c.args.rule (L s)) e) j)))
+    let e = back (goal.at.After-same_vertex c).After-anchor_of-p ∙ found (goal.at.After-same_vertex c).In_ok-e in
+    c.same_vertex.ensures
+    ∙ (λ j. same_numbers (v.ensures j) ((w.ensures ∙ ap (vertex_record c.args.rule (L s)) e) j))
 
 pub returns-in_err-e-clause-is : goal.returns-in_err-e-clause-is
 returns-in_err-e-clause-is c =
@@ -109,19 +108,19 @@ vertex_on-w-requires c =
           (in_use (goal.at.vertex_on-w-requires c).Else-slots-e-eq0)),
     )
 
-pub returns-then-eq-clause-is : goal.returns-then-eq-clause-is
-returns-then-eq-clause-is c =
-    let s = (goal.at.returns-then-eq-clause-is c).Start in
-    let q = found (goal.at.returns-then-eq-clause-is c).In_ok-e in
+pub returns-then-same_vertex-clause-is : goal.returns-then-same_vertex-clause-is
+returns-then-same_vertex-clause-is c =
+    let s = (goal.at.returns-then-same_vertex-clause-is c).Start in
+    let q = found (goal.at.returns-then-same_vertex-clause-is c).In_ok-e in
     let size = c.args.volume.now.sizes in
     q
     ∙ edge_right c.args.rule (L s) (vs s) c.args.slots.now c.args.i
-    (subst (λ (e : ℕ). e < needed_slots size) q (below (goal.at.returns-then-eq-clause-is c).In_ok-e))
+    (subst (λ (e : ℕ). e < needed_slots size) q (below (goal.at.returns-then-same_vertex-clause-is c).In_ok-e))
     (λ u. c.if-slots-e-eq0.false (ap (λ (e : ℕ). get_or c.args.slots.now e 0) q ∙ u))
-    (sym (compared (goal.at.returns-then-eq-clause-is c).After-eq) ∙ c.if-eq.true)
+    (sym (compared (goal.at.returns-then-same_vertex-clause-is c).After-same_vertex) ∙ c.if-same_vertex.true)
 
-pub returns-else-eq-clause-is : goal.returns-else-eq-clause-is
-returns-else-eq-clause-is c =
-    let s = (goal.at.returns-else-eq-clause-is c).Start in
+pub returns-else-same_vertex-clause-is : goal.returns-else-same_vertex-clause-is
+returns-else-same_vertex-clause-is c =
+    let s = (goal.at.returns-else-same_vertex-clause-is c).Start in
     edge_wrong c.args.rule (L s) (vs s) c.args.slots.now c.args.i
-    (sym (compared (goal.at.returns-else-eq-clause-is c).After-eq) ∙ c.if-eq.false)
+    (sym (compared (goal.at.returns-else-same_vertex-clause-is c).After-same_vertex) ∙ c.if-same_vertex.false)

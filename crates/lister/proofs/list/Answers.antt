@@ -43,9 +43,9 @@ slice_bounds-room-end c = fits (goal.at.slice_bounds-room-end c).After-sample_co
 pub slice_bounds-samples-end : goal.slice_bounds-samples-end
 slice_bounds-samples-end c = sym (front (goal.at.slice_bounds-samples-end c).After-sample_count-n)
 
-pub get_all-requires : goal.get_all-requires
-get_all-requires c =
-    let at = (goal.at.get_all-requires c).After-sample_count-n in
+pub get_samples-requires : goal.get_samples-requires
+get_samples-requires c =
+    let at = (goal.at.get_samples-requires c).After-sample_count-n in
     omega (arith, front at, count at, (readable_ok _ c.in_ok-tested.ensures).long)
 
 pub returns : goal.returns
@@ -53,5 +53,5 @@ returns c =
     let a = c.args in
     let at = (goal.at.returns c).After-sample_count-n in
     list_ok a.input.now a.vertices.now a.triangles.now (search rules) (search rules) c.in_ok-tested.ensures
-    _ c.sizes_of-sizes.ensures _ (c.get_all.ensures ∙ samples_listed a.input.now _ (front at ∙ count at))
+    _ c.sizes_of-sizes.ensures _ (c.get_samples.ensures ∙ samples_listed a.input.now _ (front at ∙ count at))
     _ c.mesh.ensures.0 _ c.mesh.ensures.1 _ c.mesh.ensures.2

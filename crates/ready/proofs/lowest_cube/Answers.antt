@@ -44,9 +44,12 @@ chosen L off (Some k) h e = record {
   below = h;
 }
 
-pub returns : goal.returns
-returns c = record {
-  of = λ v h.
-      let k = c.lowest_crossed in
-      rw c.ok_or.ensures.value (chosen _ c.args.off k.result k.ensures.below (k.ensures.lowest v h));
-}
+pub returns-in-Some : goal.returns-in-Some
+returns-in-Some c =
+    let e = c.in-Some.ensures in
+    record { of = λ v h. chosen _ c.args.off (Some c.in-Some.k) e.below (e.lowest v h) }
+
+pub returns-in-None : goal.returns-in-None
+returns-in-None c =
+    let e = c.in-None.ensures in
+    record { of = λ v h. chosen _ c.args.off None e.below (e.lowest v h) }

@@ -27,4 +27,4 @@ stl_length-requires c = omega (arith, accepted (goal.at.stl_length-requires c).I
 pub returns : goal.returns
 returns c =
     let a = c.args in
-    write_ok a.nv a.nt a.vertices.now a.triangles.now a.bytes.now c.in_ok-writable.ensures _ c.stl_length.ensures _ c.put_file.ensures
+    write_ok a.nv a.nt a.vertices.now a.triangles.now a.bytes.now c.in_ok-writable.ensures _ (omega (arith, c.stl_length.ensures)) _ c.put_file.ensures

@@ -20,7 +20,7 @@ corner-c-requires c =
 pub put_facet-requires : goal.put_facet-requires
 put_facet-requires c =
     let w = corners_within _ _ _ c.requires.1 in (
-      omega (arith, c.stl_length.ensures),
+      omega arith,
       rw c.corner-a.ensures (vertex_numbers_law _ _ w.0),
       rw c.corner-b.ensures (vertex_numbers_law _ _ w.1),
       rw c.corner-c.ensures (vertex_numbers_law _ _ w.2),
@@ -29,4 +29,4 @@ put_facet-requires c =
 pub returns : goal.returns
 unfolding triangle_bytes
 returns c =
-    rw c.stl_length.ensures at c.put_facet.ensures ∙ rw (c.corner-a.ensures, c.corner-b.ensures, c.corner-c.ensures)
+    c.put_facet.ensures ∙ rw (c.corner-a.ensures, c.corner-b.ensures, c.corner-c.ensures)
