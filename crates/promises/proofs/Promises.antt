@@ -12,6 +12,7 @@ use lib.Signed.{mag, lt_z}
 use lib.Dec.{T}
 use lib.ListN.{length, get_or, take}
 use lib.Ieee.{Float, nan, binary32, of_bits, to_bits, sub, lt}
+use Rattle.std.specs.Prelude.{Result}
 use Rattle.lists.specs.Lists.{range, each, all, over, count, is_in}
 use Rattle.paper.specs.declared.Sizes.{Sizes}
 use Rattle.paper.specs.declared.Place.{Place}
@@ -19,6 +20,11 @@ use Rattle.paper.specs.declared.Start.{Start}
 use Rattle.paper.specs.declared.Start.TheVariants.{Unnamed, Lowest, Cube}
 use Rattle.paper.specs.declared.Rule.{Rule}
 use Rattle.paper.specs.declared.Rule.TheVariants.{Down, Nearest}
+use Rattle.paper.specs.declared.Refusal.{Refusal}
+use Rattle.paper.specs.declared.BuildError.{BuildError}
+use Rattle.paper.specs.declared.SheetCounts.{SheetCounts}
+use Rattle.paper.specs.declared.Contents.{Contents}
+use Rattle.paper.specs.Refused.{verdict_told, built_told, wrote_told, got_told}
 use Rattle.paper.specs.declared.Built.{Built}
 use Rattle.paper.specs.declared.Wrote.{Wrote}
 use Rattle.paper.specs.declared.Got.{Got}
@@ -38,10 +44,13 @@ use Rattle.pairing.specs.Pairing.{Demand3, Demand3By, file_edges, file_corners}
 use Rattle.pairing.specs.Visitable.{outer}
 use Rattle.facets.specs.Steps.{float_of, is_image}
 use Rattle.stl.specs.declared.Loaded.{Loaded}
+use Rattle.stl.specs.Told.{loaded_told}
 use Rattle.stl.specs.Stl.{nine_of, StlWrites, stl_facet, StlReads}
 use Rattle.stl.proofs.Promises.{Exactly as CornerOf, Returned as StlReturned}
 use Rattle.stl.proofs.Promises as stl
 use Rattle.tray.specs.declared.Found.{Found}
+use Rattle.tray.specs.declared.FindError.{FindError}
+use Rattle.tray.specs.Told.{found_told}
 use Rattle.tray.specs.Pieces.{lowest_cubes, plain_scan, Lent as ListLent, Finds}
 use Rattle.tray.proofs.Scanning as scanning
 use Rattle.tray.proofs.Demand as searches
@@ -56,6 +65,7 @@ use Rattle.greys.proofs.Promises as floats
 use Rattle.paper.proofs.Crossing.{WithinHalf}
 use Rattle.paper.proofs.Crossing as rounding
 use Rattle.paper.proofs.Agreement as agree
+use Rattle.paper.proofs.Told as told
 use Rattle.paper.proofs.Passing.{sample_tests_law}
 use Rattle.paper.proofs.Fill as filling
 use Rattle.paper.proofs.Starts.{inside_joined}
@@ -86,6 +96,25 @@ one_read = agree.reads_agree
 pub one_check : {rule : Rule} {L : Lattice} {s : Start} {bs : List ℕ} {before : Work} {r r' : Verdict} {after after' : Work}
     → Checks rule L s bs before r after → Checks rule L s bs before r' after' → (r ≡ r') × (after ≡ after')
 one_check = agree.checks_agree
+
+-- and as the `Result` that each call of the library's crates answers: what the documents' numbers tell alike is the same
+pub one_build_result : {L : Lattice} {s : Start} {before : Lent} {r r' : Result SheetCounts BuildError} {after after' : Lent}
+    → Builds L s before (built_told r) after → Builds L s before (built_told r') after' → (r ≡ r') × (after ≡ after')
+one_build_result = told.build_results
+
+pub one_write_result : {z : Sizes} {nv nt : ℕ} {vs : List ℤ} {ts before : List ℕ} {r r' : Result ℕ Refusal} {after after' : List ℕ}
+    → Writes z nv nt vs ts before (wrote_told r) after → Writes z nv nt vs ts before (wrote_told r') after'
+    → (r ≡ r') × (after ≡ after')
+one_write_result = told.write_results
+
+pub one_read_result : {bs : List ℕ} {vs : List ℤ} {ts : List ℕ} {r r' : Result Contents Refusal} {us us' : List ℤ} {ss ss' : List ℕ}
+    → Reads bs vs ts (got_told r) us ss → Reads bs vs ts (got_told r') us' ss' → (r ≡ r') × (us ≡ us') × (ss ≡ ss')
+one_read_result = told.read_results
+
+pub one_check_result : {rule : Rule} {L : Lattice} {s : Start} {bs : List ℕ} {before : Work} {r r' : Result (Unit {0}) Refusal} {after after' : Work}
+    → Checks rule L s bs before (verdict_told r) after → Checks rule L s bs before (verdict_told r') after'
+    → (r ≡ r') × (after ≡ after')
+one_check_result = told.check_results
 
 -- A sheet is that of a rule of rounding, document 02 (vi). What is said of sheets and files is said and proved once, of either rule
 -- (`rule`); a build follows one of them (`build_rule`), and a check is told which.
@@ -253,6 +282,15 @@ pub one_stl_read : {bs : List ℕ} {before after after' : List ℤ} {r r' : Load
     → StlReads bs before r after → StlReads bs before r' after' → (r ≡ r') × (after ≡ after')
 one_stl_read = stl.stl_reads_agree
 
+pub one_stl_write_result : {nv nt : ℕ} {vs : List ℤ} {ts before : List ℕ} {r r' : Result ℕ Refusal} {after after' : List ℕ}
+    → StlWrites nv nt vs ts before (wrote_told r) after → StlWrites nv nt vs ts before (wrote_told r') after'
+    → (r ≡ r') × (after ≡ after')
+one_stl_write_result = stl.stl_write_results
+
+pub one_stl_read_result : {bs : List ℕ} {before after after' : List ℤ} {r r' : Result ℕ Refusal}
+    → StlReads bs before (loaded_told r) after → StlReads bs before (loaded_told r') after' → (r ≡ r') × (after ≡ after')
+one_stl_read_result = stl.stl_read_results
+
 module _ {nv nt : ℕ} {vs : List ℤ} {ts before after : List ℕ} {r : Wrote}
     (w : StlWrites nv nt vs ts before r after) (e : r.number ≡ 0) where
   -- "nothing may be rounded": each float of each facet is exactly its coordinate / 65,536
@@ -279,6 +317,10 @@ stl_takes = stl.bits_taken
 pub one_search : {L : Lattice} {before : ListLent} {r r' : Found} {after after' : ListLent}
     → Finds L before r after → Finds L before r' after' → (r ≡ r') × (after ≡ after')
 one_search = searches.finds_agree
+
+pub one_search_result : {L : Lattice} {before : ListLent} {r r' : Result ℕ FindError} {after after' : ListLent}
+    → Finds L before (found_told r) after → Finds L before (found_told r') after' → (r ≡ r') × (after ≡ after')
+one_search_result = searches.find_results
 
 module _ {L : Lattice} {before : ListLent} {r : Found} {after : ListLent} (f : Finds L before r after) where
   -- "the lowest cube of each separate piece, by rising number, written to a lent list of u32", and how many they are
@@ -327,6 +369,10 @@ module _ (L : Lattice) (s : Sized L.size) where
 pub one_convert : {l : Level} {n : ℕ} {vs : List Float} {before after after' : List ℤ} {r r' : Verdict}
     → Converts l n vs before r after → Converts l n vs before r' after' → (r ≡ r') × (after ≡ after')
 one_convert = floats.converts_agree
+
+pub one_convert_result : {l : Level} {n : ℕ} {vs : List Float} {before after after' : List ℤ} {r r' : Result (Unit {0}) Refusal}
+    → Converts l n vs before (verdict_told r) after → Converts l n vs before (verdict_told r') after' → (r ≡ r') × (after ≡ after')
+one_convert_result = floats.convert_results
 
 module _ {l : Level} {n : ℕ} {vs : List Float} {before after : List ℤ} {r : Verdict} (c : Converts l n vs before r after) where
   -- a refusal writes nothing

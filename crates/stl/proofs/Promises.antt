@@ -28,7 +28,6 @@ use Rattle.stl.proofs.Answers.{fine, write_none, sound_verdict}
 use Rattle.stl.proofs.Written.{written_count, written_facet, written_words, written_sound}
 use Rattle.std.specs.Prelude.{Result, Ok, Err}
 use Rattle.paper.specs.declared.Refusal.{Refusal}
-use Rattle.paper.specs.declared.Verdict.{Verdict}
 use Rattle.paper.specs.Tests.{verdict}
 use Rattle.paper.specs.Refused.{wrote_told}
 use Rattle.paper.proofs.Refusals.{some_number}
