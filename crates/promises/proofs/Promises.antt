@@ -97,7 +97,7 @@ pub one_check : {rule : Rule} {L : Lattice} {s : Start} {bs : List ℕ} {before 
     → Checks rule L s bs before r after → Checks rule L s bs before r' after' → (r ≡ r') × (after ≡ after')
 one_check = agree.checks_agree
 
--- and as the `Result` that each call of the library's crates answers: what the documents' numbers tell alike is the same
+-- and as the `Result` that each call of the library's crates answers: where its contract allows one outcome, it allows one `Result`
 pub one_build_result : {L : Lattice} {s : Start} {before : Lent} {r r' : Result SheetCounts BuildError} {after after' : Lent}
     → Builds L s before (built_told r) after → Builds L s before (built_told r') after' → (r ≡ r') × (after ≡ after')
 one_build_result = told.build_results
