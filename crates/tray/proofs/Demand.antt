@@ -134,7 +134,6 @@ module _ {L : Lattice} {before : Lent} {r : Found} {after : Lent} (f : Finds L b
       none [] c t h = t
       none (x ∷ l) c t h = omega arith
 
-
 -- ── a search's answer as a Result: where its contract allows one outcome, it allows one Result ──
 
 -- 20 is the list's alone
