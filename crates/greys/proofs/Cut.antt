@@ -106,7 +106,7 @@ plain_value (fin s m e) a c v h =
       part = div_same (m * up e) (down e) a c (down_pos e) v.over v.is.1;
     }
 
-plain_most : Plainly most 32767
+pub plain_most : Plainly most 32767
 unfolding whole
 plain_most = record { plain = (λ q. absurd (subst T (sym q) tt), lit≤ tt); part = refl }
 
@@ -123,7 +123,7 @@ fits_sign s t (suc m) e f = f
 few : (a c : ℕ) → 0 < c → a < 32767 * c → a / c ≡ min (a / c) 32767
 few a c C h = let q : a / c < 32767 = (div-lt_iff_lt-mul C).1 h in omega arith
 
-many : (a c : ℕ) → 0 < c → 32767 * c ≤ a → 32767 ≡ min (a / c) 32767
+pub many : (a c : ℕ) → 0 < c → 32767 * c ≤ a → 32767 ≡ min (a / c) 32767
 many a c C h = let q : 32767 ≤ a / c = (le-div_iff_mul-le C).1 h in omega arith
 
 -- a value that is held and cut

@@ -1,13 +1,13 @@
 -- The difference times the scale by `f32::abs` and `f32::min`, as `steps` comes by it: it is what `at_most` holds. Assumes nothing.
 use mathlib.Core.Path.{◌≡◌, sym, ◌∙◌, subst}
-use mathlib.Core.Bool.{true, false, true≢false, false≢true}
+use mathlib.Core.Bool.{true, false, false≢true, and-false}
 use mathlib.Core.Logic.{◌⊎◌, inl, inr}
-use Prim.Native.Nat.{ℕ, ◌*◌, ◌/◌, ◌<◌, ◌≤◌, min}
+use Prim.Native.Nat.{ℕ, ◌+◌, ◌*◌, ◌/◌, ◌<◌, ◌≤◌, min}
 use native.Mathlib.Nat.{mul-one, div-lt_iff_lt-mul}
 use native.Mathlib.Omega.{arith}
 use native.Mathlib.Decide.{dec_lt}
-use borrow.Author.Tests.{lt-ltb, le-ltb, lt-leb, le-leb}
-use lib.Dec.{T, leb}
+use borrow.Author.Tests.{lt-ltb, le-ltb, lt-leb, le-leb, ne_eqb}
+use lib.Dec.{T, eqb, leb}
 use lib.IntN.{ℤ, pos}
 use lib.Ieee.{Float, nan, inf, fin, binary32, mul, of_int, up, down, fits, lt, eq, le, is_nan}
 use lib.Ieee.Exact.{HasValue}
@@ -18,7 +18,7 @@ use Rattle.greys.specs.Within.{Scale, most, at_most, Bounded}
 use Rattle.greys.proofs.Greys.{or_le}
 use Rattle.greys.proofs.Product.{product}
 use Rattle.greys.proofs.Bounds.{scaled_most}
-use Rattle.greys.proofs.Cut.{Value, Plainly, plain_value, held_value, fits_sign}
+use Rattle.greys.proofs.Cut.{Value, Plainly, at_most_law, plain_value, plain_most, many, fits_sign}
 
 -- the two orders in which a least value may be taken
 to_most : (m : ℕ) (e : ℤ) → le (fin false m e) most ≡ leb (m * up e) (32767 * down e)
@@ -28,6 +28,15 @@ to_most m e = rw (mul-one (m * up e)) (or_le (m * up e) (32767 * down e))
 from_most : (m : ℕ) (e : ℤ) → le most (fin false m e) ≡ leb (32767 * down e) (m * up e)
 unfolding le lt eq
 from_most m e = rw (mul-one (m * up e)) (or_le (32767 * down e) (m * up e))
+
+-- of a float below 0, or of −0
+low_to_most : (m : ℕ) (e : ℤ) → le (fin true m e) most ≡ true
+unfolding le lt eq
+low_to_most m e = rw (lt-ltb 0 (m * up e * 1 + 32767 * down e) (omega (arith, down_pos e)))
+
+low_from_most : (m : ℕ) (e : ℤ) → le most (fin true m e) ≡ false
+unfolding le lt eq
+low_from_most m e = rw (ne_eqb (32767 * down e) 0 (λ q. omega (arith, down_pos e, q))) (and-false (eqb (32767 * down e) (m * up e * 1)))
 
 -- the least of x and 32,767 is x held; where both are as large it may be x itself
 pub least_law : (s : ℕ) (e : ℤ) (r : Float) → let x = fin false s e in
@@ -53,22 +62,54 @@ least_law s e r i = elim i [
     from q (no l) =
         inl (q ∙ rw (from_most s e, le-leb (32767 * down e) (s * up e) (omega arith), le-ltb (s * up e * 1) (32767 * down e) (omega arith)))
 
+-- r is x held to 32,767: it stays, or x is 32,767 or more
+pub record Kept (x r : Float) (a c : ℕ) : Type 0 where
+  pub small : a ≤ 32767 * c
+  pub is : r ≡ x
+
+pub record Cut (r : Float) (a c : ℕ) : Type 0 where
+  pub large : 32767 * c ≤ a
+  pub is : r ≡ most
+
+pub held_law : (x r : Float) (a c : ℕ) → Value x a c → IsFloatMin x most r → Kept x r a c ⊎ Cut r a c
+unfolding is_nan
+held_law nan r a c v i = absurd v.is
+held_law (inf s) r a c v i = absurd v.is
+held_law (fin false m e) r a c v i = elim (least_law m e r i) [
+  | inl q ↦ elim (at_most_law (fin false m e) a c v) [
+    | inl k ↦ inl (record { small = omega (arith, k.small); is = q ∙ k.is })
+    | inr k ↦ inr (record { large = k.large; is = q ∙ k.is })
+  ]
+  | inr q ↦
+      inl (record {
+        small = scaled_most a c (m * up e) (down e) 32767 (down_pos e) (sym v.is.1) (omega (arith, q.1));
+        is = q.0;
+      })
+]
+held_law (fin true m e) r a c v i =
+    inl (record {
+      small = omega (arith, v.none_is (sym v.is.0));
+      is = elim i [
+        | inl q ↦ q ∙ rw (low_to_most m e)
+        | inr q ↦ q ∙ rw (low_from_most m e)
+      ];
+    })
+
 few : (a c : ℕ) → 0 < c → a ≤ 32767 * c → a / c ≡ min (a / c) 32767
 few a c C h = let q : a / c < 32768 = (div-lt_iff_lt-mul C).1 (omega arith) in omega arith
 
 -- so it is plain, and its whole part is known
 least_value : (x r : Float) (a c : ℕ) → HasValue x false a c → 0 < c → IsFloatMin x most r → Plainly r (min (a / c) 32767)
-least_value nan r a c v C i = absurd v
-least_value (inf s) r a c v C i = absurd v
-least_value (fin true m e) r a c v C i = absurd (true≢false v.0)
-least_value (fin false m e) r a c v C i = elim (least_law m e r i) [
-  | inl q ↦ subst (λ (y : Float). Plainly y (min (a / c) 32767)) (sym q) (held_value (fin false m e) a c V)
-  | inr q ↦
-      let h = scaled_most a c (m * up e) (down e) 32767 (down_pos e) (sym v.1) (omega (arith, q.1)) in
-      subst (λ (y : Float). Plainly y (min (a / c) 32767)) (sym q.0) (subst (Plainly (fin false m e)) (few a c C h) (plain_value (fin false m e) a c V h))
+least_value x r a c v C i = elim (held_law x r a c V i) [
+  | inl l ↦
+      subst (λ (y : Float). Plainly y (min (a / c) 32767)) (sym l.is)
+      (subst (Plainly x) (few a c C l.small) (plain_value x a c V l.small))
+  | inr l ↦
+      subst (λ (y : Float). Plainly y (min (a / c) 32767)) (sym l.is)
+      (subst (Plainly most) (many a c C l.large) plain_most)
 ]
   where
-    V : Value (fin false m e) a c
+    V : Value x a c
     V = record { sign = false; is = v; none_is = λ q. absurd (false≢true q); over = C }
 
 -- r is the size of d times n, held to 32,767
