@@ -106,7 +106,7 @@ plain_value (fin s m e) a c v h =
       part = div_same (m * up e) (down e) a c (down_pos e) v.over v.is.1;
     }
 
-pub plain_most : Plainly most 32767
+plain_most : Plainly most 32767
 unfolding whole
 plain_most = record { plain = (λ q. absurd (subst T (sym q) tt), lit≤ tt); part = refl }
 
@@ -120,23 +120,29 @@ unfolding fits
 fits_sign s t zero e f = f
 fits_sign s t (suc m) e f = f
 
-few : (a c : ℕ) → 0 < c → a < 32767 * c → a / c ≡ min (a / c) 32767
-few a c C h = let q : a / c < 32767 = (div-lt_iff_lt-mul C).1 h in omega arith
+few : (a c : ℕ) → 0 < c → a ≤ 32767 * c → a / c ≡ min (a / c) 32767
+few a c C h = let q : a / c < 32768 = (div-lt_iff_lt-mul C).1 (omega arith) in omega arith
 
-pub many : (a c : ℕ) → 0 < c → 32767 * c ≤ a → 32767 ≡ min (a / c) 32767
+many : (a c : ℕ) → 0 < c → 32767 * c ≤ a → 32767 ≡ min (a / c) 32767
 many a c C h = let q : 32767 ≤ a / c = (le-div_iff_mul-le C).1 h in omega arith
+
+-- r, which is x up to 32,767 and 32,767 from there on, is plain, and its whole part is known
+pub held_plain : (x r : Float) (a c : ℕ) → Value x a c → ((a ≤ 32767 * c) × (r ≡ x)) ⊎ ((32767 * c ≤ a) × (r ≡ most))
+    → Plainly r (min (a / c) 32767)
+held_plain x r a c v (inl l) =
+    subst (λ (y : Float). Plainly y (min (a / c) 32767)) (sym l.1)
+    (subst (Plainly x) (few a c v.over l.0) (plain_value x a c v l.0))
+held_plain x r a c v (inr l) =
+    subst (λ (y : Float). Plainly y (min (a / c) 32767)) (sym l.1) (subst (Plainly most) (many a c v.over l.0) plain_most)
 
 -- a value that is held and cut
 pub held_value : (x : Float) (a c : ℕ) → Value x a c → Plainly (at_most x) (min (a / c) 32767)
 held_value x a c v =
-    elim (at_most_law x a c v) [
-      | inl l ↦
-          subst (λ (y : Float). Plainly y (min (a / c) 32767)) (sym l.is)
-          (subst (Plainly x) (few a c v.over l.small) (plain_value x a c v (omega (arith, l.small))))
-      | inr l ↦
-          subst (λ (y : Float). Plainly y (min (a / c) 32767)) (sym l.is)
-          (subst (Plainly most) (many a c v.over l.large) plain_most)
-    ]
+    held_plain x (at_most x) a c v
+    (elim (at_most_law x a c v) [
+      | inl l ↦ inl (omega (arith, l.small), l.is)
+      | inr l ↦ inr (l.large, l.is)
+    ])
 
 -- what `steps` cuts is plain, and its whole part is the size of the sample
 pub stepped_is : (n : ℕ) → Scale n → (d : Float) → Bounded 131072 d → T (fits binary32 d) → Plainly (stepped d n) (held d n)

@@ -1,9 +1,9 @@
 -- The difference times the scale by `f32::abs` and `f32::min`, as `steps` comes by it: it is what `at_most` holds. Assumes nothing.
-use mathlib.Core.Path.{◌≡◌, sym, ◌∙◌, subst}
+use mathlib.Core.Path.{◌≡◌, sym, ◌∙◌}
 use mathlib.Core.Bool.{true, false, false≢true, and-false}
 use mathlib.Core.Logic.{◌⊎◌, inl, inr}
 use Prim.Native.Nat.{ℕ, ◌+◌, ◌*◌, ◌/◌, ◌<◌, ◌≤◌, min}
-use native.Mathlib.Nat.{mul-one, div-lt_iff_lt-mul}
+use native.Mathlib.Nat.{mul-one}
 use native.Mathlib.Omega.{arith}
 use native.Mathlib.Decide.{dec_lt}
 use borrow.Author.Tests.{lt-ltb, le-ltb, lt-leb, le-leb, ne_eqb}
@@ -18,7 +18,7 @@ use Rattle.greys.specs.Within.{Scale, most, at_most, Bounded}
 use Rattle.greys.proofs.Greys.{or_le}
 use Rattle.greys.proofs.Product.{product}
 use Rattle.greys.proofs.Bounds.{scaled_most}
-use Rattle.greys.proofs.Cut.{Value, Plainly, at_most_law, plain_value, plain_most, many, fits_sign}
+use Rattle.greys.proofs.Cut.{Value, Plainly, at_most_law, held_plain, fits_sign}
 
 -- the two orders in which a least value may be taken
 to_most : (m : ℕ) (e : ℤ) → le (fin false m e) most ≡ leb (m * up e) (32767 * down e)
@@ -95,19 +95,14 @@ held_law (fin true m e) r a c v i =
       ];
     })
 
-few : (a c : ℕ) → 0 < c → a ≤ 32767 * c → a / c ≡ min (a / c) 32767
-few a c C h = let q : a / c < 32768 = (div-lt_iff_lt-mul C).1 (omega arith) in omega arith
-
 -- so it is plain, and its whole part is known
 least_value : (x r : Float) (a c : ℕ) → HasValue x false a c → 0 < c → IsFloatMin x most r → Plainly r (min (a / c) 32767)
-least_value x r a c v C i = elim (held_law x r a c V i) [
-  | inl l ↦
-      subst (λ (y : Float). Plainly y (min (a / c) 32767)) (sym l.is)
-      (subst (Plainly x) (few a c C l.small) (plain_value x a c V l.small))
-  | inr l ↦
-      subst (λ (y : Float). Plainly y (min (a / c) 32767)) (sym l.is)
-      (subst (Plainly most) (many a c C l.large) plain_most)
-]
+least_value x r a c v C i =
+    held_plain x r a c V
+    (elim (held_law x r a c V i) [
+      | inl l ↦ inl (l.small, l.is)
+      | inr l ↦ inr (l.large, l.is)
+    ])
   where
     V : Value x a c
     V = record { sign = false; is = v; none_is = λ q. absurd (false≢true q); over = C }
